@@ -10,28 +10,29 @@ use Rattle.cats_text.specs.Reading.{FeedsAs, FeedsOn as FedOn}
 use Rattle.cats_text.specs.declared.read_fault.Kind.TheVariants.{Memory as NoMemory}
 use Rattle.cats_cmd.specs.Internal.Roundings.{EndsAs, FeedsOn, HasTaken, HasText, IsFaultOf, IsSound, IsWorking, PassesOn, has_taken_by, refusal_by}
 use Rattle.cats_cmd.specs.Internal.Roundings.{refusal_of_reader, whole_count, whole_text}
-use Rattle.cats_cmd.specs.PricedInputs.{both_counts}
+use Rattle.cats_cmd.specs.PricedInputs.{both_counts, counted}
 use Rattle.cats_cmd.specs.declared.rounded_reader.RoundedReader.{RoundedReader}
-use Rattle.rounding.specs.Pieces.{RoundsAll, RoundsOn, prices_with, rounded_with}
+use Rattle.rounding.specs.Pieces.{IsRounding, RoundsAll, RoundsOn, prices_with, rounded_with}
+use Rattle.rounding.specs.declared.rounder.Rounder.{Rounder}
 use Rattle.rounding.specs.Texts.{PlainRoundedPrice}
 use Rattle.rounding.specs.declared.text.RoundedText.{RoundedText}
 use Rattle.std.specs.Option.{option_or}
-use Rattle.std.specs.Prelude.{result_err, nat_le}
+use Rattle.std.specs.Prelude.{result_err, nat_le, is_none}
 use Rattle.std.proofs.lemmas.List.{take-append-drop}
 use Rattle.std.proofs.KnownBytes.{Consumes-nil}
-use Rattle.cats_cmd.proofs.Common.{Watched, Consumes, MAX_STREAM, inner_of, has_ended, has_failed, StopsReading, ReadsAll}
+use Rattle.cats_cmd.proofs.Common.{Watched, Consumes, MatchOption, both_ways, MAX_STREAM, inner_of, has_ended, has_failed, StopsReading, ReadsAll}
 use Rattle.cats_cmd.specs.Internal.Roundings.{ReadsRounded}
 use Rattle.cats_cmd.specs.PricedInputs.{RefusesRounded}
 
 -- ---- counts
 
+same_counts : (a b c d : ℕ) → a ≡ c → b ≡ d → counted a b ≡ counted c d
+same_counts a b c d e f = ap (λ n. counted n b) e ∙ ap (counted c) f
+
 rounded_count-append : (ps qs : List PlainRoundedPrice) → rounded_count (ps ++ qs) ≡ both_counts (rounded_count ps) (rounded_count qs)
 rounded_count-append ps qs =
-    rw (length-append ps qs, filter-append (λ p. p.price == 0) ps qs,
-    length-append (filter (λ p. p.price == 0) ps) (filter (λ p. p.price == 0) qs)) refl
-
-same_counts : (a b c d : ℕ) → a ≡ c → b ≡ d → record { count = a; zeroed = b } ≡ record { count = c; zeroed = d }
-same_counts a b c d e f = rw (e, f) refl
+    same_counts _ _ _ _ (length-append ps qs)
+    (ap length (filter-append (λ p. p.price == 0) ps qs) ∙ length-append (filter (λ p. p.price == 0) ps) (filter (λ p. p.price == 0) qs))
 
 counts_assoc : (a b c : RoundedCount) → both_counts a (both_counts b c) ≡ both_counts (both_counts a b) c
 counts_assoc a b c = same_counts _ _ _ _ (omega arith) (omega arith)
@@ -56,7 +57,8 @@ some_injective e f q = cc
 
 cut_or_long : (bytes : List ℕ) (limit : ℕ) (fault : ReadFault) (cut : Option ReadFault) → complete_fault (take limit bytes) ≡ cut
     → option_or cut (Some (fault_at 0 TooLong)) ≡ Some fault → IsFaultOf (λ rest. bytes ++ rest) (refusal_of_reader fault)
-cut_or_long bytes limit fault None is long = rw (← some_injective (fault_at 0 TooLong) fault long) (inl refl)
+cut_or_long bytes limit fault None is long =
+    subst (λ (f : ReadFault). IsFaultOf (λ rest. bytes ++ rest) (refusal_of_reader f)) (some_injective (fault_at 0 TooLong) fault long) (inl refl)
 cut_or_long bytes limit fault (Some found) is same = found_so_far bytes limit fault (is ∙ same)
 
 by_limit : (within : Bool) (bytes : List ℕ) (limit : ℕ) (fault : ReadFault)
@@ -69,16 +71,19 @@ by_limit false bytes limit fault is = cut_or_long bytes limit fault (complete_fa
 fed_refusal : (bytes : List ℕ) (limit : ℕ) (fault : ReadFault) → (fed_fault limit bytes ≡ Some fault) ⊎ WantsMemory (take limit bytes) fault
     → IsFaultOf (λ rest. bytes ++ rest) (refusal_of_reader fault)
 fed_refusal bytes limit fault (inl is) = by_limit (nat_le (length bytes) limit) bytes limit fault is
-fed_refusal bytes limit fault (inr wants) = rw (wants.0) (inl refl)
+fed_refusal bytes limit fault (inr wants) =
+    subst (λ (f : ReadFault). IsFaultOf (λ rest. bytes ++ rest) (refusal_of_reader f)) (sym wants.0) (inl refl)
+
+pub feeding_goes_on : (old new : Fed) (piece : List ℕ) (answer : Result (Unit {0}) ReadFault) → old.failed ≡ None → FeedsAs old piece new answer
+    → FedOn old piece new answer
+feeding_goes_on old new piece answer works feeds =
+    subst (λ (f : Option ReadFault). MatchOption f (FedOn old piece new answer) (λ (e : ReadFault). (new ≡ old) × (answer ≡ Err e))) works feeds
 
 pub feeding_refused : (old new : Fed) (piece : List ℕ) (fault : ReadFault) → old.failed ≡ None → FeedsAs old piece new (Err fault)
     → IsFaultOf (λ rest. (old.bytes ++ piece) ++ rest) (refusal_of_reader fault)
 feeding_refused old new piece fault works feeds =
-    let fed : FedOn old piece new (Err fault) = rw works at feeds in
-    rw (← fed.bytes) (fed_refusal new.bytes new.limit fault fed.answer.0)
-
-pub feeding_goes_on : (old new : Fed) (piece : List ℕ) → old.failed ≡ None → FeedsAs old piece new (Ok tt) → FedOn old piece new (Ok tt)
-feeding_goes_on old new piece works feeds = rw works at feeds
+    let fed : FedOn old piece new (Err fault) = feeding_goes_on old new piece (Err fault) works feeds in
+    subst (λ (t : List ℕ). IsFaultOf (λ rest. t ++ rest) (refusal_of_reader fault)) fed.bytes (fed_refusal new.bytes new.limit fault fed.answer.0)
 
 -- ---- one more piece
 
@@ -107,19 +112,39 @@ module _ {K : Type 0} (old mid : RoundedReader K) (piece : List ℕ) (from : Rou
 
   pub piece_fed : (new : RoundedReader K) (answer : Result (Unit {0}) ReadFault) → PassesOn mid new answer → FeedsOn old piece new answer
   piece_fed new (Ok u) passes = record {
-    works = record { rounder = rw passes.rounder rounds.holds; reader = passes.reader };
-    text = λ rest. rw (passes.bytes, passes.rounder) (whole_ahead rest);
-    count = λ rest. rw (passes.count, passes.rounder) (count_ahead rest);
+    works = record { rounder = subst IsRounding (sym passes.rounder) rounds.holds; reader = passes.reader };
+    text = λ rest.
+        whole_ahead rest
+        ∙ ap (λ (r : Rounder). (mid.reader.bytes ++ mid.rounded.text.items) ++ rounded_with r rest) (sym passes.rounder)
+        ∙ ap (λ (t : List ℕ). t ++ rounded_with new.rounder rest) (sym passes.bytes);
+    count = λ rest.
+        count_ahead rest
+        ∙ ap (λ (r : Rounder). both_counts (both_counts mid.count (rounded_count (plain_changes mid.rounded.prices.items)))
+        (rounded_count (prices_with r rest))) (sym passes.rounder)
+        ∙ ap (λ (c : RoundedCount). both_counts c (rounded_count (prices_with new.rounder rest))) (sym passes.count);
   }
   piece_fed new (Err fault) (inl memory) = inl memory
   piece_fed new (Err fault) (inr found) = inr (λ rest. ap first_fault (whole_ahead rest) ∙ found (rounded_with mid.rounder rest))
+
+-- ---- whether a fault was found
+
+found : (fault : ReadFault) → Some fault ≡ None → ⊥
+found fault q = cc
+
+pub none_if : (fault : Option ReadFault) → is_none fault ≡ true → fault ≡ None
+none_if None is = refl
+none_if (Some fault) is = absurd (both_ways false refl is)
+
+pub some_if : (fault : Option ReadFault) → is_none fault ≡ false → fault ≡ None → ⊥
+some_if None is none = both_ways true is refl
+some_if (Some fault) is none = found fault none
 
 -- ---- all bytes so far
 
 module _ (rule : PriceRule) (bytes : List ℕ) where
   sound_by : {K : Type 0} (r : RoundedReader K) (fault : Option ReadFault) → has_taken_by rule bytes fault r → fault ≡ None → IsWorking r
   sound_by r None has is = has.works
-  sound_by r (Some fault) has is = absurd cc
+  sound_by r (Some fault) has is = absurd (found fault is)
 
   -- no fault was found by a reader that has none
   pub sound : {K : Type 0} (r : RoundedReader K) → HasTaken rule bytes r → IsSound r
@@ -143,12 +168,18 @@ module _ (rule : PriceRule) (bytes : List ℕ) where
       → new.rounder ≡ mid.rounder → new.reader ≡ mid.reader → new.count ≡ mid.count → FeedsOn old piece mid answer
       → has_taken_by rule (bytes ++ piece) (result_err answer) new
   taken_by old mid new piece (Ok u) has rounder reader count feeds = record {
-    works = record { rounder = rw rounder feeds.works.rounder; reader = rw reader feeds.works.reader };
+    works = record {
+      rounder = subst IsRounding (sym rounder) feeds.works.rounder;
+      reader = ap (λ (fed : Fed). fed.failed) reader ∙ feeds.works.reader;
+    };
     text = λ rest.
-        rw (reader, rounder) (ap (rounded_text rule) (append_assoc bytes piece rest) ∙ has.text (piece ++ rest) ∙ feeds.text rest);
+        ap (rounded_text rule) (append_assoc bytes piece rest) ∙ has.text (piece ++ rest) ∙ feeds.text rest
+        ∙ ap (λ (fed : Fed). fed.bytes ++ rounded_with mid.rounder rest) (sym reader)
+        ∙ ap (λ (r : Rounder). new.reader.bytes ++ rounded_with r rest) (sym rounder);
     count = λ rest.
-        rw (count, rounder)
-        (ap (λ (t : List ℕ). rounded_count (rounded_prices rule t)) (append_assoc bytes piece rest) ∙ has.count (piece ++ rest) ∙ feeds.count rest);
+        ap (λ (t : List ℕ). rounded_count (rounded_prices rule t)) (append_assoc bytes piece rest) ∙ has.count (piece ++ rest) ∙ feeds.count rest
+        ∙ ap (λ (c : RoundedCount). both_counts c (rounded_count (prices_with mid.rounder rest))) (sym count)
+        ∙ ap (λ (r : Rounder). both_counts new.count (rounded_count (prices_with r rest))) (sym rounder);
   }
   taken_by old mid new piece (Err fault) has rounder reader count (inl memory) = inl memory
   taken_by old mid new piece (Err fault) has rounder reader count (inr found) =
@@ -159,8 +190,9 @@ module _ (rule : PriceRule) (bytes : List ℕ) where
       → HasTaken rule bytes old → new.rounder ≡ mid.rounder → new.reader ≡ mid.reader → new.count ≡ mid.count → new.fault ≡ result_err answer
       → FeedsOn old piece mid answer → HasTaken rule (bytes ++ piece) new
   piece_taken old mid new piece answer none has rounder reader count fault feeds =
-      let has_text : HasText rule bytes old = rw none at has in
-      rw fault (taken_by old mid new piece answer has_text rounder reader count feeds)
+      let has_text : HasText rule bytes old = subst (λ (f : Option ReadFault). has_taken_by rule bytes f old) none has in
+      subst (λ (f : Option ReadFault). has_taken_by rule (bytes ++ piece) f new) (sym fault)
+      (taken_by old mid new piece answer has_text rounder reader count feeds)
 
   -- ---- the end
 
@@ -172,7 +204,7 @@ module _ (rule : PriceRule) (bytes : List ℕ) where
       (reader : mid.reader ≡ old.reader) (count : mid.count ≡ old.count) (no_text : from.text.items ≡ []) (no_prices : from.prices.items ≡ [])
       (rounds : RoundsAll old.rounder from mid.rounded) where
     whole : HasText rule bytes old
-    whole = rw none at has
+    whole = subst (λ (f : Option ReadFault). has_taken_by rule bytes f old) none has
 
     text_is : rounded_text rule bytes ≡ mid.reader.bytes ++ mid.rounded.text.items
     text_is =

@@ -12,7 +12,7 @@ use cats_text::{Kind, MAX_STREAM, ReadFault, Watched};
 use rounding::replacement::PriceRule;
 use rounding::rounder::Rounder;
 use rounding::text::RoundedText;
-use std::alloc::Global;
+use std::alloc::{AllocError, Global};
 use std::io::Read;
 
 /// The longest text that a reader is fed. Memory is refused to a longer one, which no stream gives.
@@ -70,14 +70,10 @@ impl<K: Keep> RoundedReader<K> {
         ensures { FeedsOn self.old piece.now self.new result }
     {
         self.rounded.clear();
-        if self
-            .rounder
-            .push(alloc, piece, &mut self.rounded)
-            .is_err()
-        {
-            return Err(ReadFault::whole(Kind::Memory));
+        match self.rounder.push(alloc, piece, &mut self.rounded) {
+            Ok(()) => self.pass_on(),
+            Err(AllocError) => Err(ReadFault::whole(Kind::Memory)),
         }
-        self.pass_on()
     }
 
     /// Judges what became of a piece.
@@ -105,14 +101,10 @@ impl<K: Keep> RoundedReader<K> {
             return Err(fault);
         }
         self.rounded.clear();
-        if self
-            .rounder
-            .finish(alloc, &mut self.rounded)
-            .is_err()
-        {
-            return Err(ReadFault::whole(Kind::Memory));
+        match self.rounder.finish(alloc, &mut self.rounded) {
+            Ok(()) => self.pass_on()?,
+            Err(AllocError) => return Err(ReadFault::whole(Kind::Memory)),
         }
-        self.pass_on()?;
         Ok((self.reader, self.count))
     }
 }

@@ -85,9 +85,10 @@ impl Rounder {
         if self.number == u64::MAX {
             return Err(AllocError);
         }
-        let significant = is_significant(self.line.as_slice());
+        let line = self.line.as_slice();
+        let significant = is_significant(line);
         let is_bid = is_bid_line(self.before, significant);
-        rounded.push_line(alloc, self.line.as_slice(), is_bid, self.number, self.rule)?;
+        rounded.push_line(alloc, line, is_bid, self.number, self.rule)?;
         rounded.text.push(b'\n')?;
         self.line.clear();
         self.number += 1;

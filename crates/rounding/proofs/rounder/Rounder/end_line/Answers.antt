@@ -6,7 +6,8 @@ use Rattle.rounding.proofs.rounder.Rounder.end_line.Goals as goal
 
 pub returns : goal.returns
 returns c =
+    let same = c.as_slice-line.ensures.value in
     line_ended c.args.self.now _ c.args.rounded.now _ c.push_line.new.self.text.items c.is_significant-significant.result c.is_bid_line-is_bid.result
-    c.from.result c.requires refl c.clear.ensures.items refl refl c.is_significant-significant.ensures c.is_bid_line-is_bid.ensures
+    c.from.result c.requires refl c.clear.ensures.items refl refl (rw same at c.is_significant-significant.ensures) c.is_bid_line-is_bid.ensures
     (one_or_none c.is_significant-significant.result c.from.result c.from.ensures)
-    c.in_ok-push_line.ensures.text c.in_ok-push.ensures.items c.in_ok-push_line.ensures.prices
+    (rw same at c.in_ok-push_line.ensures.text) c.in_ok-push.ensures.items (rw same at c.in_ok-push_line.ensures.prices)

@@ -1,5 +1,5 @@
 -- `Rounder::take_line`
-use Rattle.rounding.proofs.Common.{on_ok_weaker, refl, line_end}
+use Rattle.rounding.proofs.Common.{on_ok_weaker, refl, true, line_end}
 use Rattle.rounding.proofs.Pieces.{held_alone, held_before}
 use Rattle.rounding.proofs.rounder.Rounder.take_line.Goals as goal
 
