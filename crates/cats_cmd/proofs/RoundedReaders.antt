@@ -1,6 +1,6 @@
 -- A reader of a text whose prices are rounded while it comes: one more piece, the end, and its faults.
 use Rattle.cats_cmd.proofs.Common.{◌≡◌, ◌⊎◌, ◌+◌, ◌<◌, ◌≤◌, ℕ, Bool, true, false, List, [], ◌∷◌, ◌++◌, length, take, drop, filter, Option, Some, None, Result, Ok, Err}
-use Rattle.cats_cmd.proofs.Common.{inl, inr, refl, sym, ap, ◌∙◌, subst, arith, ◌==◌, append_assoc, append-nil, length-append, filter-append, if◌then◌else◌, first_fault, fault_at}
+use Rattle.cats_cmd.proofs.Common.{inl, inr, refl, sym, ap, ◌∙◌, subst, arith, ◌==◌, append_assoc, append-nil, length-append, filter-append, first_fault, fault_at}
 use Rattle.cats_cmd.proofs.Common.{ReadFault, Kind, TooLong, PriceRule, RoundedCount, rounded_count, rounded_text, rounded_prices, plain_changes, WantsMemory}
 use Rattle.cats_cmd.proofs.PricedInputs.{memory_on_no_line}
 use Rattle.cats_text.proofs.Texts.MachineAnswers.{complete_fault_stays}
@@ -10,14 +10,15 @@ use Rattle.cats_text.specs.Reading.{FeedsAs, FeedsOn as FedOn}
 use Rattle.cats_text.specs.declared.read_fault.Kind.TheVariants.{Memory as NoMemory}
 use Rattle.cats_cmd.specs.Internal.Roundings.{EndsAs, FeedsOn, HasTaken, HasText, IsFaultOf, IsSound, IsWorking, PassesOn, has_taken_by, refusal_by}
 use Rattle.cats_cmd.specs.Internal.Roundings.{refusal_of_reader, whole_count, whole_text}
-use Rattle.cats_cmd.specs.PricedInputs.{both_counts, counted}
+use Rattle.cats_cmd.specs.PricedInputs.{both_counts, counted, none_rounded}
 use Rattle.cats_cmd.specs.declared.rounded_reader.RoundedReader.{RoundedReader}
 use Rattle.rounding.specs.Pieces.{IsRounding, RoundsAll, RoundsOn, prices_with, rounded_with}
 use Rattle.rounding.specs.declared.rounder.Rounder.{Rounder}
 use Rattle.rounding.specs.Texts.{PlainRoundedPrice}
 use Rattle.rounding.specs.declared.text.RoundedText.{RoundedText}
 use Rattle.std.specs.Option.{option_or}
-use Rattle.std.specs.Prelude.{result_err, nat_le, is_none}
+use Rattle.std.specs.Prelude.{nat_le, is_none, if◌then◌else◌}
+use Rattle.std.specs.Result.{result_err}
 use Rattle.std.proofs.lemmas.List.{take-append-drop}
 use Rattle.std.proofs.KnownBytes.{Consumes-nil}
 use Rattle.cats_cmd.proofs.Common.{Watched, Consumes, MatchOption, both_ways, MAX_STREAM, inner_of, has_ended, has_failed, StopsReading, ReadsAll}
@@ -140,6 +141,21 @@ some_if None is none = both_ways true is refl
 some_if (Some fault) is none = found fault none
 
 -- ---- all bytes so far
+
+none_more : (ps : List PlainRoundedPrice) → rounded_count ps ≡ both_counts none_rounded (rounded_count ps)
+none_more ps = same_counts _ _ _ _ (omega arith) (omega arith)
+
+pub nothing_taken : {K : Type 0} (rule : PriceRule) (limit : ℕ) (r : RoundedReader K) → IsRounding r.rounder
+    → r.reader ≡ record { limit = limit; bytes = []; failed = None } → r.count ≡ none_rounded
+    → ((text : List ℕ) → rounded_with r.rounder text ≡ rounded_text rule text)
+    → ((text : List ℕ) → prices_with r.rounder text ≡ rounded_prices rule text) → HasText rule [] r
+nothing_taken rule limit r is reader count text prices = record {
+  works = record { rounder = is; reader = ap (λ (fed : Fed). fed.failed) reader };
+  text = λ rest. sym (text rest) ∙ ap (λ (fed : Fed). fed.bytes ++ rounded_with r.rounder rest) (sym reader);
+  count = λ rest.
+      ap rounded_count (sym (prices rest)) ∙ none_more (prices_with r.rounder rest)
+      ∙ ap (λ (c : RoundedCount). both_counts c (rounded_count (prices_with r.rounder rest))) (sym count);
+}
 
 module _ (rule : PriceRule) (bytes : List ℕ) where
   sound_by : {K : Type 0} (r : RoundedReader K) (fault : Option ReadFault) → has_taken_by rule bytes fault r → fault ≡ None → IsWorking r
