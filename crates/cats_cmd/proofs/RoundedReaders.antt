@@ -17,7 +17,7 @@ use Rattle.rounding.specs.declared.rounder.Rounder.{Rounder}
 use Rattle.rounding.specs.Texts.{PlainRoundedPrice}
 use Rattle.rounding.specs.declared.text.RoundedText.{RoundedText}
 use Rattle.std.specs.Option.{option_or}
-use Rattle.std.specs.Prelude.{nat_le, is_none, if◌then◌else◌}
+use Rattle.std.specs.Prelude.{nat_le, is_some, if◌then◌else◌}
 use Rattle.std.specs.Result.{result_err}
 use Rattle.std.proofs.lemmas.List.{take-append-drop}
 use Rattle.std.proofs.KnownBytes.{Consumes-nil}
@@ -132,12 +132,12 @@ module _ {K : Type 0} (old mid : RoundedReader K) (piece : List ℕ) (from : Rou
 found : (fault : ReadFault) → Some fault ≡ None → ⊥
 found fault q = cc
 
-pub none_if : (fault : Option ReadFault) → is_none fault ≡ true → fault ≡ None
+pub none_if : (fault : Option ReadFault) → is_some fault ≡ false → fault ≡ None
 none_if None is = refl
-none_if (Some fault) is = absurd (both_ways false refl is)
+none_if (Some fault) is = absurd (both_ways true is refl)
 
-pub some_if : (fault : Option ReadFault) → is_none fault ≡ false → fault ≡ None → ⊥
-some_if None is none = both_ways true is refl
+pub some_if : (fault : Option ReadFault) → is_some fault ≡ true → fault ≡ None → ⊥
+some_if None is none = both_ways false refl is
 some_if (Some fault) is none = found fault none
 
 -- ---- all bytes so far
@@ -286,3 +286,11 @@ rounded_memory_on_no_line remaining rule old new fault (inl stops) is = absurd (
 rounded_memory_on_no_line remaining rule old new fault (inr (inl has)) is =
     memory_on_no_line (rounded_text rule has.bytes) fault (inl has.first) is
 rounded_memory_on_no_line remaining rule old new fault (inr (inr wants)) is = ap (λ (f : ReadFault). f.line) wants.is
+
+none_part : {P : Type 0} {X : ReadFault → Type 0} (failed : Option ReadFault) → failed ≡ None → MatchOption failed P X → P
+none_part None none part = part
+none_part (Some fault) none part = absurd (found fault none)
+
+pub finishing_memory_on_no_line : {X : ReadFault → Type 0} (fed : Fed) (fault : ReadFault) → fed.failed ≡ None
+    → MatchOption fed.failed ((first_fault fed.bytes ≡ Some fault) ⊎ WantsMemory fed.bytes fault) X → fault.kind ≡ NoMemory → fault.line ≡ 0
+finishing_memory_on_no_line fed fault none why is = memory_on_no_line fed.bytes fault (none_part fed.failed none why) is
