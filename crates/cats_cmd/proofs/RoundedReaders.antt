@@ -287,10 +287,10 @@ rounded_memory_on_no_line remaining rule old new fault (inr (inl has)) is =
     memory_on_no_line (rounded_text rule has.bytes) fault (inl has.first) is
 rounded_memory_on_no_line remaining rule old new fault (inr (inr wants)) is = ap (λ (f : ReadFault). f.line) wants.is
 
-none_part : {P : Type 0} {X : ReadFault → Type 0} (failed : Option ReadFault) → failed ≡ None → MatchOption failed P X → P
-none_part None none part = part
-none_part (Some fault) none part = absurd (found fault none)
+none_part : {P : Type 0} (X : ReadFault → Type 0) (failed : Option ReadFault) → failed ≡ None → MatchOption failed P X → P
+none_part X None none part = part
+none_part X (Some fault) none part = absurd (found fault none)
 
-pub finishing_memory_on_no_line : {X : ReadFault → Type 0} (fed : Fed) (fault : ReadFault) → fed.failed ≡ None
+pub finishing_memory_on_no_line : (X : ReadFault → Type 0) (fed : Fed) (fault : ReadFault) → fed.failed ≡ None
     → MatchOption fed.failed ((first_fault fed.bytes ≡ Some fault) ⊎ WantsMemory fed.bytes fault) X → fault.kind ≡ NoMemory → fault.line ≡ 0
-finishing_memory_on_no_line fed fault none why is = memory_on_no_line fed.bytes fault (none_part fed.failed none why) is
+finishing_memory_on_no_line X fed fault none why is = memory_on_no_line fed.bytes fault (none_part X fed.failed none why) is

@@ -9,7 +9,7 @@ feed-requires g c = c.requires (none_if c.args.self.now.fault (c.is_none.ensures
 pub returns-then-is_none : goal.returns-then-is_none
 returns-then-is_none g c = λ rule bytes has.
     piece_taken rule bytes c.args.self.now c.feed.new.self _ c.args.piece.now c.feed.result
-    (none_if c.args.self.now.fault (c.is_none.ensures ∙ ap not c.if-is_none.true)) has refl refl refl c.err.ensures.value c.feed.ensures
+    (none_if c.args.self.now.fault (c.is_none.ensures ∙ ap not c.if-is_none.true)) has refl refl refl c.err-self.ensures.value c.feed.ensures
 
 pub returns-else-is_none : goal.returns-else-is_none
 returns-else-is_none g c = λ rule bytes has.
