@@ -1,5 +1,5 @@
 -- A reader of a text whose prices are rounded while it comes: one more piece, the end, and its faults.
-use Rattle.cats_cmd.proofs.Common.{◌≡◌, ◌⊎◌, ◌+◌, ◌<◌, ◌≤◌, ℕ, Bool, true, false, List, [], ◌∷◌, ◌++◌, length, take, drop, filter, Option, Some, None, Result, Ok, Err}
+use Rattle.cats_cmd.proofs.Common.{◌≡◌, ◌⊎◌, ◌+◌, ◌≤◌, ℕ, Bool, true, false, List, [], ◌++◌, length, take, drop, filter, Option, Some, None, Result, Ok, Err}
 use Rattle.cats_cmd.proofs.Common.{inl, inr, refl, sym, ap, ◌∙◌, subst, arith, ◌==◌, append_assoc, append-nil, length-append, filter-append, first_fault, fault_at}
 use Rattle.cats_cmd.proofs.Common.{ReadFault, Kind, TooLong, PriceRule, RoundedCount, rounded_count, rounded_text, rounded_prices, plain_changes, WantsMemory}
 use Rattle.cats_cmd.proofs.PricedInputs.{memory_on_no_line}

@@ -1,5 +1,5 @@
 -- A text in pieces: a line that has ended, a line that has begun, and pieces one behind the other.
-use Rattle.rounding.proofs.Common.{if◌then◌else◌, ◌≡◌, ℕ, suc, ◌+◌, ◌<◌, Bool, true, false, ◌&&◌, ◌||◌, eqb, leb, List, [], ◌∷◌, ◌++◌, length, refl, sym, ap, ◌∙◌}
+use Rattle.rounding.proofs.Common.{if◌then◌else◌, ◌≡◌, ℕ, suc, ◌+◌, Bool, true, false, ◌&&◌, ◌||◌, eqb, leb, List, [], ◌∷◌, ◌++◌, refl, sym, ap, ◌∙◌}
 use Rattle.rounding.proofs.Common.{arith, append_assoc, append-nil, or_parts, eqb-true, list_any-append, RawLine, raw_lines, blank_returns, line_words, is_significant}
 use Rattle.rounding.proofs.Common.{with_rounded, second_word, replacement, change_by, rounded_lines, rounded_line, lines_text, line_text, lines_changes, line_changes}
 use Rattle.rounding.proofs.Common.{before_next, PlainRoundedPrice, plain_changes, first_line, behind_line, has_line_end, PriceRule, Rounder, RoundedText, IsRounding}

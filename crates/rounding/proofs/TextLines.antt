@@ -2,8 +2,8 @@
 use Rattle.rounding.proofs.Common.{if◌then◌else◌, ◌≡◌, ℕ, suc, ◌+◌, ◌-◌, ◌<◌, ◌≤◌, min, Bool, true, false, ◌&&◌, leb, ltb, List, [], ◌∷◌, ◌++◌, length, take}
 use Rattle.rounding.proofs.Common.{drop, refl, sym, ap, ◌∙◌, ⊎_elim, arith, append_assoc, lt-ltb, le-ltb, cases_lt, map-append, length-drop, take_rest, Word}
 use Rattle.rounding.proofs.Common.{drop_all, front_rest, bool_byte, RawLine, raw_lines, blank_returns, line_words, is_significant, replacement, from_second}
-use Rattle.rounding.proofs.Common.{replacement_text, before_second, second_word, leading_word, behind_word, with_rounded, rounded_text, rounded_prices, Rounded}
-use Rattle.rounding.proofs.Common.{rounded_lines, rounded_line, lines_text, line_text, lines_changes, line_changes, change_by, PlainRoundedPrice, before_next}
+use Rattle.rounding.proofs.Common.{replacement_text, before_second, second_word, leading_word, behind_word, with_rounded, Rounded}
+use Rattle.rounding.proofs.Common.{rounded_line, line_text, line_changes, change_by, PlainRoundedPrice, before_next}
 use Rattle.rounding.proofs.Common.{is_significant_line, plain_changes, RoundedPrice, first_line, behind_line, has_line_end, PriceRule, Replacement}
 use Rattle.rounding.proofs.Common.{common_steps}
 use Rattle.rounding.proofs.Words.{second_both, second_taken, drop_more}

@@ -40,7 +40,11 @@ fn prices_of_a_text(rt: HostRuntime) -> Result<(), Fail> {
 fn prices_of_a_text_in_pieces(rt: HostRuntime) -> Result<(), Fail> {
     let mut rounder = Rounder::new(rt.alloc(), ROUNDED);
     let mut rounded = RoundedText::new(rt.alloc());
-    rounder.push(rt.alloc(), b"goods 2\nbids 2\ndummy 0\n0 0.00", &mut rounded)?;
+    rounder.push(
+        rt.alloc(),
+        b"goods 2\nbids 2\ndummy 0\n0 0.00",
+        &mut rounded,
+    )?;
     assert!(rt; rounded.text.as_slice() == b"goods 2\nbids 2\ndummy 0\n".as_slice());
     rounded.clear();
     rounder.push(rt.alloc(), b"00015 1 #\n", &mut rounded)?;

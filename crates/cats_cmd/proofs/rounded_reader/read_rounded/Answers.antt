@@ -1,5 +1,5 @@
 -- `read_rounded`
-use Rattle.cats_cmd.proofs.Common.{arith, ◌<◌, length, take, ◌++◌, ◌∙◌, inl, inr, refl, length-append, Consumes-trans}
+use Rattle.cats_cmd.proofs.Common.{arith, ◌<◌, length, take, ◌++◌, ◌∙◌, inl, refl, length-append, Consumes-trans}
 use Rattle.cats_cmd.proofs.ReadingBytes.{no_more, not_at_the_end, at_the_end, too_many}
 use Rattle.cats_cmd.proofs.RoundedReaders.{nothing_read, sound, stream_ended}
 use Rattle.cats_cmd.proofs.rounded_reader.read_rounded.Goals as goal
@@ -16,16 +16,18 @@ finish-requires g c = sound c.args.rule c.loop-reader.invariant.0.bytes c.loop-r
 pub loop-reader-preserved : goal.loop-reader-preserved
 loop-reader-preserved g c =
     let kept = c.loop-reader.invariant.0 in
-    let piece = take c.in-Ok.count c.read.new.piece in
-    (record {
-      bytes = kept.bytes ++ piece;
-      came = Consumes-trans _ _ _ kept.bytes piece kept.came c.in-Ok.ensures.bytes.0;
-      count_is = let all = length-append kept.bytes piece in let counted = kept.count_is in let size = c.in-Ok.ensures.bound.1 in omega arith;
-      within = let beyond = c.if-count-length.false in omega arith;
-      works = c.in-Ok.ensures.failed;
-      fresh = c.in-Ok.ensures.ended ∙ not_at_the_end _ c.in-Ok.count c.read.new.piece kept.fresh c.in-Ok.count-test.1;
-      taken = c.take.ensures c.args.rule kept.bytes kept.taken;
-    }, rw c.read.auto.piece c.loop-reader.invariant.1)
+    let piece = take c.in-Ok.count c.read.new.piece in (
+      record {
+        bytes = kept.bytes ++ piece;
+        came = Consumes-trans _ _ _ kept.bytes piece kept.came c.in-Ok.ensures.bytes.0;
+        count_is = let all = length-append kept.bytes piece in let counted = kept.count_is in let size = c.in-Ok.ensures.bound.1 in omega arith;
+        within = let beyond = c.if-count-length.false in omega arith;
+        works = c.in-Ok.ensures.failed;
+        fresh = c.in-Ok.ensures.ended ∙ not_at_the_end _ c.in-Ok.count c.read.new.piece kept.fresh c.in-Ok.count-test.1;
+        taken = c.take.ensures c.args.rule kept.bytes kept.taken;
+      },
+      rw c.read.auto.piece c.loop-reader.invariant.1,
+    )
 
 pub returns-in-Ok-eq0 : goal.returns-in-Ok-eq0
 returns-in-Ok-eq0 g c =

@@ -1,5 +1,5 @@
 -- `Rounder::push`
-use Rattle.rounding.proofs.Common.{ℕ, List, ◌+◌, ◌-◌, ltb, length, take, drop, refl, ap, ◌∙◌, sym, arith, drop_all, has_line_end}
+use Rattle.rounding.proofs.Common.{ℕ, List, ◌+◌, ◌-◌, ltb, length, take, drop, refl, ap, ◌∙◌, arith, has_line_end}
 use Rattle.rounding.proofs.TextLines.{IsCut, cut_line}
 use Rattle.rounding.proofs.Pieces.{first_line_unended, line_cut_off, line_rounded, nothing_rounded}
 use Rattle.rounding.proofs.rounder.Rounder.push.Goals as goal
