@@ -9,13 +9,12 @@ returns-in-Some g c = λ rule bytes has. ended_before rule bytes c.in-Some.fault
 pub returns-in_err-pass_on-in-Ok : goal.returns-in_err-pass_on-in-Ok
 returns-in_err-pass_on-in-Ok g c = λ rule bytes has.
     let reported = err_from_is_err_and c.from_residual.result c.from_residual.ensures.1 in
-    let mid = record {
+    rw (reported.1, reported.2)
+    (ended_refused rule bytes c.args.self (record {
       rounder = c.args.self.rounder;
       reader = c.args.self.reader;
       rounded = c.finish.new.rounded;
       count = c.args.self.count;
       fault = c.args.self.fault;
-    } in
-    rw (reported.1, reported.2)
-    (ended_refused rule bytes c.args.self mid c.clear.new.self c.in_default.is has refl refl c.clear.ensures.text c.clear.ensures.prices c.in-Ok.ensures
+    }) c.clear.new.self c.in_default.is has refl refl c.clear.ensures.text c.clear.ensures.prices c.in-Ok.ensures
     c.pass_on.new.self c.in_err-pass_on-in-Ok.field-0.0 c.in_err-pass_on-in-Ok.ensures)
