@@ -1,5 +1,5 @@
 -- A reader of a text whose prices are rounded while it comes: one more piece, the end, and its faults.
-use Rattle.cats_cmd.proofs.Common.{◌≡◌, ◌⊎◌, ◌+◌, ◌≤◌, ℕ, Bool, true, false, List, [], ◌++◌, length, take, drop, filter, Option, Some, None, Result, Ok, Err}
+use Rattle.cats_cmd.proofs.Common.{◌≡◌, ◌⊎◌, ◌≤◌, ℕ, Bool, true, false, List, [], ◌++◌, length, take, drop, filter, Option, Some, None, Result, Ok, Err}
 use Rattle.cats_cmd.proofs.Common.{inl, inr, refl, sym, ap, ◌∙◌, subst, arith, ◌==◌, append_assoc, append-nil, length-append, filter-append, first_fault, fault_at}
 use Rattle.cats_cmd.proofs.Common.{ReadFault, Kind, TooLong, PriceRule, RoundedCount, rounded_count, rounded_text, rounded_prices, plain_changes, WantsMemory}
 use Rattle.cats_cmd.proofs.PricedInputs.{memory_on_no_line}
@@ -217,8 +217,7 @@ module _ (rule : PriceRule) (bytes : List ℕ) where
   ended_before fault (inr found) = inr (ap (λ (t : List ℕ). first_fault (rounded_text rule t)) (sym (append-nil bytes)) ∙ found [])
 
   module _ {K : Type 0} (old mid : RoundedReader K) (from : RoundedText) (none : old.fault ≡ None) (has : HasTaken rule bytes old)
-      (reader : mid.reader ≡ old.reader) (count : mid.count ≡ old.count) (no_text : from.text.items ≡ []) (no_prices : from.prices.items ≡ [])
-      (rounds : RoundsAll old.rounder from mid.rounded) where
+      (reader : mid.reader ≡ old.reader) (no_text : from.text.items ≡ []) (rounds : RoundsAll old.rounder from mid.rounded) where
     whole : HasText rule bytes old
     whole = subst (λ (f : Option ReadFault). has_taken_by rule bytes f old) none has
 
@@ -228,24 +227,10 @@ module _ (rule : PriceRule) (bytes : List ℕ) where
         ∙ ap (λ (t : List ℕ). old.reader.bytes ++ t) (ap (λ (t : List ℕ). t ++ rounded_with old.rounder []) (sym no_text) ∙ rounds.text)
         ∙ ap (λ (fed : Fed). fed.bytes ++ mid.rounded.text.items) (sym reader)
 
-    count_is : rounded_count (rounded_prices rule bytes) ≡ both_counts mid.count (rounded_count (plain_changes mid.rounded.prices.items))
-    count_is =
-        ap (λ (t : List ℕ). rounded_count (rounded_prices rule t)) (sym (append-nil bytes)) ∙ whole.count []
-        ∙ ap (λ (ps : List PlainRoundedPrice). both_counts old.count (rounded_count ps))
-        (ap (λ (ps : List _). plain_changes ps ++ prices_with old.rounder []) (sym no_prices) ∙ rounds.prices)
-        ∙ ap (λ (c : RoundedCount). both_counts c (rounded_count (plain_changes mid.rounded.prices.items))) (sym count)
-
     pub ended_refused : (new : RoundedReader K) (fault : ReadFault) → PassesOn mid new (Err fault) → EndsAs rule bytes (Err fault)
     ended_refused new fault (inl memory) = inl memory
     ended_refused new fault (inr found) =
         inr (ap first_fault (text_is ∙ sym (append-nil (mid.reader.bytes ++ mid.rounded.text.items))) ∙ found [])
-
-    pub ended_whole : (new : RoundedReader K) → PassesOn mid new (Ok tt) → EndsAs rule bytes (Ok (new.reader, new.count))
-    ended_whole new passes = record {
-      works = passes.reader;
-      text = passes.bytes ∙ sym text_is;
-      count = passes.count ∙ sym count_is;
-    }
 
 -- ---- a stream
 

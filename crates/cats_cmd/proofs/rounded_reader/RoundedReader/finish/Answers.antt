@@ -1,6 +1,6 @@
 -- `RoundedReader::finish`
 use Rattle.cats_cmd.proofs.Common.{refl, err_from_is_err_and}
-use Rattle.cats_cmd.proofs.RoundedReaders.{ended_before, ended_refused, ended_whole}
+use Rattle.cats_cmd.proofs.RoundedReaders.{ended_before, ended_refused}
 use Rattle.cats_cmd.proofs.rounded_reader.RoundedReader.finish.Goals as goal
 
 pub returns-in-Some : goal.returns-in-Some
@@ -16,5 +16,5 @@ returns-in_err-pass_on-in-Ok g c = λ rule bytes has.
       rounded = c.finish.new.rounded;
       count = c.args.self.count;
       fault = c.args.self.fault;
-    }) c.clear.new.self c.in_default.is has refl refl c.clear.ensures.text c.clear.ensures.prices c.in-Ok.ensures
+    }) c.clear.new.self c.in_default.is has refl c.clear.ensures.text c.in-Ok.ensures
     c.pass_on.new.self c.in_err-pass_on-in-Ok.field-0.0 c.in_err-pass_on-in-Ok.ensures)
