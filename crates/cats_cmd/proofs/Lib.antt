@@ -15,6 +15,7 @@ mod GroupLaws
 mod PricedInputs
 mod ReadingBytes
 mod Rounding
+mod RoundedReaders
 mod Reporting
 mod Gathering
 mod Escaped

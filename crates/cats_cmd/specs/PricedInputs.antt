@@ -1,5 +1,5 @@
 -- A stream of which a bid file is read, with its prices as they are written, or rounded.
-use Rattle.std.specs.Prelude.{◌≡◌, ◌⊎◌, ◌++◌, ◌==◌, ℕ, false, List, [], ◌∷◌, length, Option, Some, None}
+use Rattle.std.specs.Prelude.{◌≡◌, ◌⊎◌, ◌++◌, ◌+◌, ◌==◌, ℕ, false, List, [], ◌∷◌, length, Option, Some, None}
 use Rattle.std.specs.Prelude.{Result, Ok, Err, codes, decimal, filter, if◌then◌else◌}
 use Rattle.bid_file.specs.Files.{PlainFile}
 use Rattle.cats_text.specs.Faults.{fault_at, first_fault}
@@ -25,6 +25,10 @@ counted count zeroed = record { count = count; zeroed = zeroed }
 -- how many prices were rounded, and how many of them are 0 now
 abbrev pub rounded_count : List PlainRoundedPrice → RoundedCount
 rounded_count prices = counted (length prices) (length (filter (λ p. p.price == 0) prices))
+
+-- the numbers of both
+abbrev pub both_counts : RoundedCount → RoundedCount → RoundedCount
+both_counts a b = counted (a.count + b.count) (a.zeroed + b.zeroed)
 
 -- no price was rounded
 abbrev pub none_rounded : RoundedCount

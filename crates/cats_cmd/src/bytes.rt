@@ -9,7 +9,7 @@ use std::alloc::Global;
 use std::io::Read;
 
 /// How many bytes are read at once.
-const PIECE: usize = 16_384;
+pub(crate) const PIECE: usize = 16_384;
 
 /// Reads a stream to its end. No more than `MAX_STREAM` bytes are kept.
 pub(crate) fn read_bytes<R: Read>(

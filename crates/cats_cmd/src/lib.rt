@@ -21,6 +21,7 @@ pub mod program;
 mod publish;
 mod publishing;
 mod round;
+mod rounded_reader;
 mod run;
 mod sizes;
 pub mod source;

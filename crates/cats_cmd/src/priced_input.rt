@@ -1,18 +1,18 @@
 //! A stream of which a bid file is read, with its prices as they are written, or rounded.
 
-ghost use Rattle.std.specs.Prelude.{◌≡◌, false};
-ghost use Rattle.cats_text.specs.Streams.{has_ended, has_failed};
-ghost use Rattle.cats_cmd.specs.Internal.Roundings.{ReadsRounded, judged_of, plain_texts};
+ghost use Rattle.std.specs.Prelude.{◌≡◌, IfSome};
+ghost use Rattle.cats_cmd.specs.Internal.Roundings.{judged_of, plain_texts};
 ghost use Rattle.cats_cmd.specs.Internal.Gathering.{Gathers};
-ghost use Rattle.cats_cmd.specs.PricedInputs.{AnswersTexts, IsReady, none_rounded, rounded_count, rounded_words};
+ghost use Rattle.cats_cmd.specs.PricedInputs.{AnswersTexts, IsReady, both_counts, none_rounded, rounded_count, rounded_words};
 ghost use Rattle.cats_cmd.specs.PricedInputs.{rounding_line, rounding_lines, zeroed_words};
 ghost use Rattle.rounding.specs.Views.{plain_changes};
 ghost use Rattle.cats_cmd.specs.Reports.{Reports, ReportsAll};
 
 use crate::bytes::read_bytes;
 use crate::lines::LineBuffer;
+use crate::rounded_reader::read_rounded;
 use bid_file::PackedFile;
-use cats_text::packed::{Header, check, read_packed};
+use cats_text::packed::{Header, finish_header, finish_packed};
 use cats_text::{Kind, ReadFault, Watched};
 use commands::Input;
 use rounding::replacement::PriceRule;
@@ -43,6 +43,17 @@ pub(crate) const NONE_ROUNDED: RoundedCount = RoundedCount {
     zeroed: 0,
 };
 
+impl RoundedCount {
+    /// Those of both; `None` if they are too many to count.
+    pub(crate) fn with(self, more: RoundedCount) -> Option<RoundedCount>
+        ensures { IfSome result (λ both. both ≡ both_counts self more) }
+    {
+        let count = self.count.checked_add(more.count)?;
+        let zeroed = self.zeroed.checked_add(more.zeroed)?;
+        Some(RoundedCount { count, zeroed })
+    }
+}
+
 impl<R: Read> Input for PricedInput<R> {
     ghost use Rattle.cats_cmd.specs.PricedInputs.{IsReady, PricedGives, PricedRefuses};
 
@@ -56,8 +67,8 @@ impl<R: Read> Input for PricedInput<R> {
         let Some(rule) = self.rule else {
             return self.stream.read_file(alloc);
         };
-        let (text, rounded) = read_rounded(alloc, &mut self.stream, rule)?;
-        let file = read_packed(alloc, text.as_slice())?;
+        let (reader, rounded) = read_rounded(alloc, &mut self.stream, rule)?;
+        let file = finish_packed(reader)?;
         self.rounded = rounded;
         Ok(file)
     }
@@ -66,8 +77,8 @@ impl<R: Read> Input for PricedInput<R> {
         let Some(rule) = self.rule else {
             return self.stream.read_sizes(alloc);
         };
-        let (text, rounded) = read_rounded(alloc, &mut self.stream, rule)?;
-        let header = check(alloc, text.as_slice())?;
+        let (reader, rounded) = read_rounded(alloc, &mut self.stream, rule)?;
+        let header = finish_header(reader)?;
         self.rounded = rounded;
         Ok(header)
     }
@@ -144,28 +155,8 @@ impl Texts {
     }
 }
 
-/// Reads all bytes of a stream, and rounds their prices. It answers how many were rounded.
-fn read_rounded<R: Read>(
-    alloc: Global,
-    stream: &mut Watched<R>,
-    rule: PriceRule,
-) -> Result<(Vec<u8>, RoundedCount), ReadFault>
-    requires works { has_failed stream.old ≡ false }
-    requires fresh { has_ended stream.old ≡ false }
-    ensures { ReadsRounded R.remaining rule stream.old stream.new result }
-{
-    let bytes = read_bytes(alloc, stream)?;
-    match round_prices(alloc, bytes.as_slice(), rule) {
-        Ok(rounded) => {
-            let count = rounded_count(rounded.prices.as_slice());
-            Ok((rounded.text, count))
-        }
-        Err(AllocError) => Err(ReadFault::whole(Kind::Memory)),
-    }
-}
-
 /// How many prices were rounded, and how many of them are 0 now.
-fn rounded_count(prices: &[RoundedPrice]) -> RoundedCount
+pub(crate) fn rounded_count(prices: &[RoundedPrice]) -> RoundedCount
     ensures { result ≡ rounded_count (plain_changes prices.now) }
 {
     let mut zeroed = 0;

@@ -19,7 +19,7 @@ pub use Rattle.cats_text.specs.Internal.Parsing.{good_read, dummy_read, end_read
 pub use Rattle.cats_text.specs.Internal.Parsing.{is_same_keyword, read_at, line_at}
 pub use Rattle.cats_text.specs.Internal.Places.{Judged, judged_at, judged_then, words_judged, line_judged, IsFirstWord, IsFirstLine, without_return, seen}
 pub use Rattle.cats_text.specs.Internal.Progress.{Progress, Gives, Stops, progress}
-pub use Rattle.cats_text.specs.Internal.Reading.{PartsAnswer, PartsAs, PackedAs, Unpacks, HasTaken, IsReading, SpellsParts, placed_fault}
+pub use Rattle.cats_text.specs.Internal.Reading.{PartsAnswer, PartsAs, Unpacks, HasTaken, IsReading, SpellsParts, placed_fault}
 pub use Rattle.cats_text.specs.Internal.Returns.{settled, waits, carried, settle, return_byte}
 pub use Rattle.cats_text.specs.Internal.Scanning.{State, state, first_state, Scan, scan, Scans, MeetsBidLine, end_of, ArePartsOf, Finishes, IsInBidLine}
 pub use Rattle.cats_text.specs.Internal.Scanning.{HasBids, and_then, with_reading, blank_step_at, words_step_at, missing_step, line_step, byte_step, end_step}
@@ -31,7 +31,7 @@ pub use Rattle.cats_text.specs.Lines.{Word, Line, RawLine, raw_lines, with_byte,
 pub use Rattle.cats_text.specs.Lines.{begins_word, numbered, blank_returns, significant_lines, line_byte, line_count, line_ends}
 pub use Rattle.cats_text.specs.Numbers.{number_of, is_too_large, is_too_fine, price_of, whole_part, places, has_place_from, six_places, digits_alone}
 pub use Rattle.cats_text.specs.Numbers.{GREATEST_PRICE, is_number, is_digit, is_price, has_point}
-pub use Rattle.cats_text.specs.Reading.{PackedAnswer, FinishAnswer, FinishesAs, WantsMemory, FeedsAs}
+pub use Rattle.cats_text.specs.Reading.{PackedAnswer, PackedAs, CheckAnswer, CheckedAs, FinishAnswer, FinishesAs, WantsMemory, FeedsAs}
 pub use Rattle.cats_text.specs.Streams.{has_failed, IsWhole, IsTextFault, FaultsAt, ReadsAs, ReadsPlainAs, ChecksAs, inner_of, Sends, SendsPart, has_ended}
 pub use Rattle.cats_text.specs.Streams.{failed_to_write, moved_nothing}
 pub use Rattle.cats_text.specs.Views.{plain_place}

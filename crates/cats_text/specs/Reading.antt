@@ -54,3 +54,11 @@ pub record SpellsSizes (bytes : List ℕ) (header : Header) : Type 0 where
 abbrev pub CheckAnswer : List ℕ → Result Header ReadFault → Type 0
 CheckAnswer bytes (Ok header) = SpellsSizes bytes header
 CheckAnswer bytes (Err e) = (first_fault bytes ≡ Some e) ⊎ WantsMemory bytes e
+
+-- at the end, the fault that was answered before, or else `PackedAnswer`
+abbrev pub PackedAs : Fed → Result PlainFile ReadFault → Type 0
+PackedAs fed r = MatchOption fed.failed (PackedAnswer fed.bytes r) (λ e. r ≡ Err e)
+
+-- at the end, the fault that was answered before, or else `CheckAnswer`
+abbrev pub CheckedAs : Fed → Result Header ReadFault → Type 0
+CheckedAs fed r = MatchOption fed.failed (CheckAnswer fed.bytes r) (λ e. r ≡ Err e)

@@ -1,11 +1,11 @@
 //! `PushReader`: bytes pushed to the scanner, up to a limit.
 
 ghost use Rattle.std.specs.Prelude.{◌≡◌, ◌^◌, ◌<◌, [], None};
-ghost use Rattle.cats_text.specs.Internal.Reading.{PartsAs, PackedAs, Unpacks};
-ghost use Rattle.cats_text.specs.Reading.{FeedsAs};
+ghost use Rattle.cats_text.specs.Internal.Reading.{PartsAs, Unpacks};
+ghost use Rattle.cats_text.specs.Reading.{CheckedAs, FeedsAs, PackedAs};
 
 use crate::history::History;
-use crate::keep::Keep;
+use crate::keep::{BidCount, Keep};
 use crate::parser::Header;
 use crate::read_fault::{Kind, ReadFault};
 use crate::scanner::Scanner;
@@ -71,7 +71,7 @@ impl<K: Keep> PushReader<K> {
     }
 
     /// Judges the rest as the end of the input, and answers what the header lines said and what is kept of the bids.
-    pub fn finish(self) -> Result<(Header, K), ReadFault>
+    pub(crate) fn finish(self) -> Result<(Header, K), ReadFault>
         ensures { PartsAs K.keep K.bids self result }
     {
         if let Some(fault) = self.failed {
@@ -87,6 +87,14 @@ pub fn finish_packed(push_reader: PushReader<PackedBids>) -> Result<PackedFile, 
 {
     let (header, bids) = push_reader.finish()?;
     Ok(PackedFile::new(header.goods, header.dummy, bids))
+}
+
+/// Judges the rest as the end of the input, and answers what the header lines said.
+pub fn finish_header(push_reader: PushReader<BidCount>) -> Result<Header, ReadFault>
+    ensures { CheckedAs push_reader result }
+{
+    let (header, _count) = push_reader.finish()?;
+    Ok(header)
 }
 
 /// The same file with a vector for each bid.

@@ -5,7 +5,7 @@ ghost use Rattle.cats_text.specs.Reading.{CheckAnswer, FinishAnswer, PackedAnswe
 
 use crate::keep::BidCount;
 use crate::parser::Header;
-use crate::push_reader::{PushReader, finish_packed, unpacked};
+use crate::push_reader::{PushReader, finish_header, finish_packed, unpacked};
 use crate::read_fault::ReadFault;
 use bid_file::{BidFile, PackedBids, PackedFile};
 use std::alloc::Global;
@@ -81,6 +81,5 @@ pub fn check(alloc: Global, text: &[u8]) -> Result<Header, ReadFault>
 {
     let mut counter: PushReader<BidCount> = PushReader::new(alloc, text.len() as u64);
     counter.feed(text)?;
-    let (header, _count) = counter.finish()?;
-    Ok(header)
+    finish_header(counter)
 }

@@ -32,7 +32,7 @@ ghost use Rattle.cats_text.specs.Streams.{
 use crate::keep::{BidCount, Keep};
 use crate::limits::MAX_STREAM;
 use crate::parser::Header;
-use crate::push_reader::{PushReader, finish_packed, unpacked};
+use crate::push_reader::{PushReader, finish_header, finish_packed, unpacked};
 use crate::read_fault::{Kind, ReadFault};
 use bid_file::{BidFile, PackedBids, PackedFile};
 use std::alloc::Global;
@@ -201,8 +201,7 @@ pub fn check_from<R: Read>(alloc: Global, input: &mut Watched<R>) -> Result<Head
 {
     let mut push_reader: PushReader<BidCount> = PushReader::new(alloc, MAX_STREAM);
     feed_from(&mut push_reader, input)?;
-    let (header, _count) = push_reader.finish()?;
-    Ok(header)
+    finish_header(push_reader)
 }
 
 /// Feeds the whole stream, a piece at a time.

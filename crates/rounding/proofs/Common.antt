@@ -17,6 +17,7 @@ pub use Rattle.rounding.specs.Decimals.{is_decimal, top, bottom, exact_top, exac
 pub use Rattle.rounding.specs.Internal.RawTexts.{behind_line, first_line, has_line_end}
 pub use Rattle.rounding.specs.Internal.Rests.{rest_with}
 pub use Rattle.rounding.specs.Internal.Values.{IsRest, Holds, shift_up, shift_down}
+pub use Rattle.rounding.specs.Pieces.{IsRounding, RoundsOn, RoundsAll, line_end, prices_with, rounded_with}
 pub use Rattle.rounding.specs.Nearest.{nearest, IsNearest}
 pub use Rattle.rounding.specs.Replacements.{replacement_of, replacement, rounded_word, replacement_text, is_kept}
 pub use Rattle.rounding.specs.Texts.{behind_blanks, leading_word, behind_word, from_second, before_second, second_word, behind_second, with_rounded}
@@ -30,6 +31,7 @@ pub use Rattle.rounding.specs.declared.replacement.FinePrices.TheVariants.{Round
 pub use Rattle.rounding.specs.declared.replacement.PriceRule.{PriceRule}
 pub use Rattle.rounding.specs.declared.replacement.Replacement.{Replacement}
 pub use Rattle.rounding.specs.declared.replacement.Replacement.TheVariants.{Exact, Rounded, TooLarge, TooFine, Itself}
+pub use Rattle.rounding.specs.declared.rounder.Rounder.{Rounder}
 pub use Rattle.rounding.specs.declared.text.RoundedPrice.{RoundedPrice}
 pub use Rattle.rounding.specs.declared.text.RoundedText.{RoundedText}
 pub use Rattle.rounding.specs.declared.value.Value.{Value}
@@ -49,5 +51,6 @@ pub use Rattle.std.proofs.lemmas.List.Prefix.{front_rest}
 pub use Rattle.std.proofs.lemmas.List.Sums.{fold-append}
 pub use Rattle.std.proofs.lemmas.Nat.{mul-le, div-add-mod', mod_below, le-div, div-mul-add, mod-mul-add, pow-add}
 pub use Rattle.std.specs.List.{AllByRecursion, list_any}
-pub use Rattle.std.specs.Prelude.{if◌then◌else◌, IsErrAnd, codes, option_map, slice_get}
+pub use Rattle.std.proofs.lemmas.Result.{on_ok_weaker}
+pub use Rattle.std.specs.Prelude.{if◌then◌else◌, IsErrAnd, OnOk, codes, option_map, slice_get}
 pub use mir.Val.{bool_byte}

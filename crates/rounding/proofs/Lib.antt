@@ -5,6 +5,7 @@ pub mod Words
 pub mod Worth
 pub mod Deciding
 pub mod TextLines
+pub mod Pieces
 pub mod Exactness
 pub mod PriceValues
 pub mod FileLines

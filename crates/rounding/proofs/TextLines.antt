@@ -2,8 +2,8 @@
 use Rattle.rounding.proofs.Common.{if◌then◌else◌, ◌≡◌, ℕ, suc, ◌+◌, ◌-◌, ◌<◌, ◌≤◌, min, Bool, true, false, ◌&&◌, leb, ltb, List, [], ◌∷◌, ◌++◌, length, take}
 use Rattle.rounding.proofs.Common.{drop, refl, sym, ap, ◌∙◌, ⊎_elim, arith, append_assoc, lt-ltb, le-ltb, cases_lt, map-append, length-drop, take_rest, Word}
 use Rattle.rounding.proofs.Common.{drop_all, front_rest, bool_byte, RawLine, raw_lines, blank_returns, line_words, is_significant, replacement, from_second}
-use Rattle.rounding.proofs.Common.{replacement_text, before_second, second_word, leading_word, behind_word, with_rounded, rounded_text, rounded_prices, Rounded}
-use Rattle.rounding.proofs.Common.{rounded_lines, rounded_line, lines_text, line_text, lines_changes, line_changes, change_by, PlainRoundedPrice, before_next}
+use Rattle.rounding.proofs.Common.{replacement_text, before_second, second_word, leading_word, behind_word, with_rounded, Rounded}
+use Rattle.rounding.proofs.Common.{rounded_line, line_text, line_changes, change_by, PlainRoundedPrice, before_next}
 use Rattle.rounding.proofs.Common.{is_significant_line, plain_changes, RoundedPrice, first_line, behind_line, has_line_end, PriceRule, Replacement}
 use Rattle.rounding.proofs.Common.{common_steps}
 use Rattle.rounding.proofs.Words.{second_both, second_taken, drop_more}
@@ -76,51 +76,21 @@ cut_line text line start count next l ec el en =
     })
     (cases_lt (start + count) (length text))
 
--- what is written of the first line of a text
-pub record IsFirstLine (rule : PriceRule) (t : List ℕ) (before number : ℕ) (t0 t2 : List ℕ) (p0 p1 : List PlainRoundedPrice) : Type 0 where
-  pub text_is : t2 ≡ t0 ++ line_text (rounded_line rule before (first_raw t))
-  pub prices_are : p1 ≡ p0 ++ line_changes rule number before (first_raw t)
+-- what is written of a line
+pub record IsLineWritten (rule : PriceRule) (before number : ℕ) (l : RawLine) (t0 t2 : List ℕ) (p0 p1 : List PlainRoundedPrice) : Type 0 where
+  pub text_is : t2 ≡ t0 ++ line_text (rounded_line rule before l)
+  pub prices_are : p1 ≡ p0 ++ line_changes rule number before l
 
-pub first_written : (rule : PriceRule) (t line t0 t1 t2 : List ℕ) (p0 p1 : List PlainRoundedPrice) (before number : ℕ) (significant is_bid ended : Bool)
-    → line ≡ first_line t → ended ≡ has_line_end t → significant ≡ is_significant (line_words (blank_returns line)) → is_bid ≡ (leb 3 before && significant)
+pub line_written : (rule : PriceRule) (line t0 t1 t2 : List ℕ) (p0 p1 : List PlainRoundedPrice) (before number : ℕ) (significant is_bid ended : Bool)
+    → significant ≡ is_significant (line_words (blank_returns line)) → is_bid ≡ (leb 3 before && significant)
     → t1 ≡ t0 ++ (if is_bid then with_rounded rule line else line) → t2 ≡ t1 ++ (if ended then 10 ∷ [] else [])
     → p1 ≡ p0 ++ (if is_bid then change_by number (second_word line) (replacement rule (second_word line)) else [])
-    → IsFirstLine rule t before number t0 t2 p0 p1
-first_written rule t line t0 t1 t2 p0 p1 before number significant is_bid ended el ee es ei e1 e2 ep = grind (arith, common_steps, append_assoc)
+    → IsLineWritten rule before number (record { bytes = line; ended = ended }) t0 t2 p0 p1
+line_written rule line t0 t1 t2 p0 p1 before number significant is_bid ended es ei e1 e2 ep = grind (arith, common_steps, append_assoc)
 
--- so much is written, and the rest of the text is still to come
-pub record IsWritten (rule : PriceRule) (text : List ℕ) (start number before : ℕ) (written : List ℕ) (prices : List PlainRoundedPrice) : Type 0 where
-  pub text_is : written ++ lines_text (rounded_lines rule before (raw_lines (drop start text))) ≡ rounded_text rule text
-  pub prices_are : prices ++ lines_changes rule number before (raw_lines (drop start text)) ≡ rounded_prices rule text
-
-next_before : (before : ℕ) (l : RawLine) (significant : Bool) (more : ℕ) → significant ≡ is_significant_line l → more ≡ (if significant then 1 else 0)
+pub next_before : (before : ℕ) (l : RawLine) (significant : Bool) (more : ℕ) → significant ≡ is_significant_line l → more ≡ (if significant then 1 else 0)
     → before + more ≡ before_next before l
 next_before before l significant more es em = grind (arith, common_steps)
-
-pub line_more : (rule : PriceRule) (text t0 t2 : List ℕ) (p0 p1 : List PlainRoundedPrice) (start next number before more : ℕ) (significant : Bool)
-    → start < length text → drop next text ≡ behind_line (drop start text) → IsFirstLine rule (drop start text) before number t0 t2 p0 p1
-    → significant ≡ is_significant_line (first_raw (drop start text)) → more ≡ (if significant then 1 else 0)
-    → IsWritten rule text start number before t0 p0 → IsWritten rule text next (number + 1) (before + more) t2 p1
-line_more rule text t0 t2 p0 p1 start next number before more significant l en f es em w =
-    let some : 0 < length (drop start text) = omega (arith, length-drop start text) in
-    let split : raw_lines (drop start text) ≡ first_raw (drop start text) ∷ raw_lines (behind_line (drop start text)) = first_of_lines (drop start text) some in
-    let after : before + more ≡ before_next before (first_raw (drop start text)) = next_before before (first_raw (drop start text)) significant more es em in
-    let one : number + 1 ≡ suc number = omega arith in
-    record {
-      text_is = ap (λ (t : List ℕ). t2 ++ lines_text (rounded_lines rule (before + more) (raw_lines t))) en
-          ∙ ap (λ n. t2 ++ lines_text (rounded_lines rule n (raw_lines (behind_line (drop start text))))) after
-          ∙ ap (λ (t : List ℕ). t ++ lines_text (rounded_lines rule (before_next before (first_raw (drop start text)))
-          (raw_lines (behind_line (drop start text))))) f.text_is ∙ append_assoc t0 (line_text (rounded_line rule before (first_raw (drop start text))))
-          (lines_text (rounded_lines rule (before_next before (first_raw (drop start text))) (raw_lines (behind_line (drop start text)))))
-          ∙ ap (λ (ls : List RawLine). t0 ++ lines_text (rounded_lines rule before ls)) (sym split) ∙ w.text_is;
-      prices_are = ap (λ (t : List ℕ). p1 ++ lines_changes rule (number + 1) (before + more) (raw_lines t)) en
-          ∙ ap (λ n. p1 ++ lines_changes rule (number + 1) n (raw_lines (behind_line (drop start text)))) after
-          ∙ ap (λ n. p1 ++ lines_changes rule n (before_next before (first_raw (drop start text))) (raw_lines (behind_line (drop start text)))) one
-          ∙ ap (λ (ps : List PlainRoundedPrice). ps ++ lines_changes rule (suc number) (before_next before (first_raw (drop start text)))
-          (raw_lines (behind_line (drop start text)))) f.prices_are ∙ append_assoc p0 (line_changes rule number before (first_raw (drop start text)))
-          (lines_changes rule (suc number) (before_next before (first_raw (drop start text))) (raw_lines (behind_line (drop start text))))
-          ∙ ap (λ (ls : List RawLine). p0 ++ lines_changes rule number before ls) (sym split) ∙ w.prices_are;
-    }
 
 -- ---- one for true
 

@@ -5,5 +5,6 @@ pub mod Replacements
 pub mod Texts
 pub mod Multiplied
 pub mod Views
+pub mod Pieces
 pub mod Answers
 pub mod Internal

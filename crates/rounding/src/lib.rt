@@ -7,6 +7,7 @@ mod digits;
 pub mod laws;
 mod line;
 pub mod replacement;
+pub mod rounder;
 pub mod text;
 mod value;
 pub mod worked;

@@ -3,7 +3,6 @@
 ghost use Rattle.std.specs.Prelude.{
   ◌≡◌,
   ◌++◌,
-  ◌∷◌,
   [],
   ◌≤◌,
   ◌&&◌,
@@ -23,6 +22,7 @@ ghost use Rattle.rounding.specs.Internal.RawTexts.{first_line};
 
 use crate::line::{is_significant, second_start, split_word};
 use crate::replacement::{PriceRule, Replacement, replacement_of};
+use crate::rounder::Rounder;
 use cats_text::packed::check;
 use cats_text::price::push_price;
 use cats_text::{Kind, ReadFault};
@@ -66,6 +66,25 @@ fn push_replacement(
 }
 
 impl RoundedText {
+    pub fn new(alloc: Global) -> RoundedText
+        ensures text { result.text.items ≡ [] }
+        ensures prices { result.prices.items ≡ [] }
+    {
+        RoundedText {
+            text: Vec::new(alloc),
+            prices: Vec::new(alloc),
+        }
+    }
+
+    /// Forgets what was written.
+    pub fn clear(&mut self)
+        ensures text { self.new.text.items ≡ [] }
+        ensures prices { self.new.prices.items ≡ [] }
+    {
+        self.text.clear();
+        self.prices.clear();
+    }
+
     /// Appends a bid line with its price rounded.
     fn push_bid_line(
         &mut self,
@@ -97,7 +116,7 @@ impl RoundedText {
     }
 
     /// Appends a line, with its price rounded if it is a bid line.
-    fn push_line(
+    pub(crate) fn push_line(
         &mut self,
         alloc: Global,
         line: &[u8],
@@ -119,24 +138,14 @@ impl RoundedText {
 }
 
 /// Whether a line is a bid line: it is significant, and so are three lines or more before it.
-fn is_bid_line(before: usize, significant: bool) -> bool
+pub(crate) fn is_bid_line(before: usize, significant: bool) -> bool
     ensures { result ≡ (nat_le 3 before && significant) }
 {
     before >= HEADER_LINES && significant
 }
 
-/// Appends the LF of a line that has one.
-fn push_end(text: &mut Vec<u8>, ended: bool) -> Result<(), AllocError>
-    ensures { OnOk result (text.new.items ≡ text.old.items ++ (if ended then 10 ∷ [] else [])) }
-{
-    if ended {
-        text.push(b'\n')?;
-    }
-    Ok(())
-}
-
 /// How many bytes are before the first LF.
-fn line_length(text: &[u8]) -> usize
+pub(crate) fn line_length(text: &[u8]) -> usize
     ensures count { result ≡ length (first_line text.now) }
     ensures within { result ≤ length text.now }
 {
@@ -153,24 +162,10 @@ pub fn round_prices(alloc: Global, text: &[u8], rule: PriceRule) -> Result<Round
     ensures text { IfOk result (λ r. r.text.items ≡ rounded_text rule text.now) }
     ensures prices { IfOk result (λ r. plain_changes r.prices.items ≡ rounded_prices rule text.now) }
 {
-    let mut rounded = RoundedText {
-        text: Vec::new(alloc),
-        prices: Vec::new(alloc),
-    };
-    let mut start = 0;
-    let mut number = 1;
-    let mut before = 0;
-    while start < text.len() {
-        let end = start + line_length(&text[start..]);
-        let line = &text[start..end];
-        let significant = is_significant(line);
-        let is_bid = is_bid_line(before, significant);
-        rounded.push_line(alloc, line, is_bid, number, rule)?;
-        push_end(&mut rounded.text, end < text.len())?;
-        start = text.len().min(end + 1);
-        number += 1;
-        before += usize::from(significant);
-    }
+    let mut rounded = RoundedText::new(alloc);
+    let mut rounder = Rounder::new(alloc, rule);
+    rounder.push(alloc, text, &mut rounded)?;
+    rounder.finish(alloc, &mut rounded)?;
     Ok(rounded)
 }
 

@@ -1,7 +1,7 @@
 -- The file of what the header lines said and the bids that were kept whole.
 use Rattle.cats_text.proofs.Common.{◌≡◌, ◌<◌, ℕ, true, List, length, Option, Some, None, Result, Ok, Err, MatchOption, refl, sym, subst, inr, arith, length-map}
 use Rattle.cats_text.proofs.Common.{lt-ltb, has_bid_line, PlainBid, PlainFile, IsPlainFile, BidFile, Fed, Spells, PackedAnswer, FinishAnswer, FinishesAs, whole}
-use Rattle.cats_text.proofs.Common.{PartsAnswer, PartsAs, PackedAs, Unpacks, ReadFault, Header, common_steps}
+use Rattle.cats_text.proofs.Common.{PartsAnswer, PartsAs, PackedAs, CheckAnswer, CheckedAs, Unpacks, ReadFault, Header, common_steps}
 
 same_file : (g d : ℕ) (bids : List PlainBid) (f : PlainFile) → g ≡ f.goods → d ≡ f.dummy → bids ≡ f.bids → record { goods = g; dummy = d; bids = bids } ≡ f
 same_file g d bids f a b c = rw (a, b, c) refl
@@ -22,6 +22,21 @@ module _ {K : Type 0} (bids : K → List PlainBid) where
   -- it is a bid file, and what is answered of it
   pub parts_reported : (fed : Fed) (parts : Header × K) → PartsAs whole bids fed (Ok parts) → IsPlainFile (file_of parts) × PackedAs fed (Ok (file_of parts))
   parts_reported fed parts reported = by_failed fed.failed fed.bytes parts reported
+
+-- ---- the header lines alone
+
+module _ {K : Type 0} (keep : PlainBid → PlainBid) (bids : K → List PlainBid) where
+  no_parts : (parts : Header × K) (e : ReadFault) → Ok parts ≡ Err e → ⊥
+  no_parts parts e q = cc
+
+  header_by : (failed : Option ReadFault) (bytes : List ℕ) (parts : Header × K)
+      → MatchOption failed (PartsAnswer keep bids bytes (Ok parts)) (λ (e : ReadFault). Ok parts ≡ Err e)
+      → MatchOption failed (CheckAnswer bytes (Ok parts.0)) (λ (e : ReadFault). Ok parts.0 ≡ Err e)
+  header_by None bytes parts says = record { file = says.file; spells = says.spelled; sizes = says.sizes }
+  header_by (Some e) bytes parts q = absurd (no_parts parts e q)
+
+  pub header_reported : (fed : Fed) (parts : Header × K) → PartsAs keep bids fed (Ok parts) → CheckedAs fed (Ok parts.0)
+  header_reported fed parts reported = header_by fed.failed fed.bytes parts reported
 
 -- ---- the same file with a vector for each bid
 

@@ -1,8 +1,8 @@
 -- Reading a stream answers as the reader that was fed the bytes.
-use Rattle.cats_text.proofs.Common.{rules, ◌≡◌, ℕ, false, List, take, Option, Some, IfSome, Result, Ok, Err, ◌⊎◌, inl, inr, refl, arith, take_all, first_fault}
-use Rattle.cats_text.proofs.Common.{fault_at, fed_fault, PlainBid, PlainFile, PackedAnswer, WantsMemory, FinishAnswer, SpellsParts, has_failed, IsWhole}
+use Rattle.cats_text.proofs.Common.{rules, ◌≡◌, ℕ, false, List, take, Option, Some, IfSome, Result, Ok, Err, ◌⊎◌, inl, inr, refl, take_all, first_fault}
+use Rattle.cats_text.proofs.Common.{fault_at, fed_fault, PlainFile, PackedAnswer, CheckAnswer, WantsMemory, FinishAnswer, has_failed, IsWhole}
 use Rattle.cats_text.proofs.Common.{IsTextFault, FaultsAt, ReadsAs, ReadsPlainAs, ChecksAs, BidFile, Kind, Device, Memory, ReadFault, Header, MAX_STREAM}
-use Rattle.cats_text.proofs.Common.{Watched, common_steps}
+use Rattle.cats_text.proofs.Common.{Watched}
 use Rattle.cats_text.proofs.Texts.FaultKinds.{IsFaultOfBytes, first_fault-of_bytes, fed_fault-of_bytes, fed_within}
 
 found : (fault : Option ReadFault) (e : ReadFault) → IfSome fault IsFaultOfBytes → fault ≡ Some e → IsFaultOfBytes e
@@ -43,6 +43,8 @@ module _ {R : Type 0} (remaining : R → Option (List ℕ)) where
   packed_reported bytes input (Ok file) works whole spelled = record { spelled = spelled; whole = whole; works = works }
   packed_reported bytes input (Err e) works whole reported = ended_reported bytes input e works whole reported
 
-  pub checked_reported : (keep : PlainBid → PlainBid) (bytes : List ℕ) (input : Watched R) (header : Header) (bids : List PlainBid) → has_failed input ≡ false
-      → IsWhole remaining bytes input → SpellsParts keep bytes header bids → ChecksAs remaining bytes input (Ok header)
-  checked_reported keep bytes input header bids works whole says = grind (arith, common_steps)
+  pub checked_reported : (bytes : List ℕ) (input : Watched R) (answer : Result Header ReadFault) → has_failed input ≡ false
+      → IsWhole remaining bytes input → CheckAnswer bytes answer → ChecksAs remaining bytes input answer
+  checked_reported bytes input (Ok header) works whole says =
+      record { file = says.file; reads = record { spelled = says.spells; whole = whole; works = works }; sizes = says.sizes }
+  checked_reported bytes input (Err e) works whole reported = ended_reported bytes input e works whole reported

@@ -16,7 +16,7 @@ use Rattle.cats_text.specs.declared.read_fault.ReadFault.{ReadFault}
 use Rattle.cats_text.specs.declared.read_fault.Kind.TheVariants.{Memory}
 use Rattle.cats_text.specs.declared.parser.Header.{Header}
 use Rattle.cats_text.specs.declared.scanner.Scanner.{Scanner}
-use Rattle.cats_text.specs.Reading.{PackedAnswer, WantsMemory}
+use Rattle.cats_text.specs.Reading.{WantsMemory}
 
 -- the fault of a call that stopped at a line; want of memory is on no line
 abbrev pub placed_fault : ℕ → Kind → ReadFault
@@ -40,9 +40,6 @@ pub record IsReading {K : Type 0} (keep : PlainBid → PlainBid) (most count : �
 abbrev pub Unpacks : PlainFile → Result BidFile ReadFault → Type 0
 Unpacks file (Ok f) = plain_file f ≡ file
 Unpacks file (Err e) = (e ≡ fault_at 0 Memory) × (0 < length file.bids)
-
-abbrev pub PackedAs : Fed → Result PlainFile ReadFault → Type 0
-PackedAs fed r = MatchOption fed.failed (PackedAnswer fed.bytes r) (λ e. r ≡ Err e)
 
 -- the bytes spell a file whose header lines say this, and whose bids these are if each is kept whole
 pub record SpellsParts (keep : PlainBid → PlainBid) (bytes : List ℕ) (header : Header)

@@ -4,6 +4,7 @@ use crate::prices::{REFUSED, ROUNDED, multiplied};
 use cats_text::Kind::TooFine;
 use cats_text::ReadFault;
 use rounding::replacement::FinePrices;
+use rounding::rounder::Rounder;
 use rounding::text::{RoundedText, round, round_prices};
 use std::process::Abort;
 use std::test::Fail;
@@ -39,6 +40,30 @@ fn prices_of_a_text(rt: HostRuntime) -> Result<(), Fail> {
     let (line, kind) = (9, TooFine);
     let refused = round(rt.alloc(), TEXT, REFUSED).err();
     assert_eq!(rt; refused, Some(ReadFault { line, kind }));
+    Ok(())
+}
+
+#[test]
+fn prices_of_a_text_in_pieces(rt: HostRuntime) -> Result<(), Fail> {
+    let mut rounder = Rounder::new(rt.alloc(), ROUNDED);
+    let mut rounded = RoundedText::new(rt.alloc());
+    rounder.push(
+        rt.alloc(),
+        b"goods 2\nbids 2\ndummy 0\n0 0.00",
+        &mut rounded,
+    )?;
+    assert!(rt; rounded.text.as_slice() == b"goods 2\nbids 2\ndummy 0\n".as_slice());
+    rounded.clear();
+    rounder.push(rt.alloc(), b"00015 1 #\n", &mut rounded)?;
+    rounder.push(rt.alloc(), b"1 2e0 0 #\r", &mut rounded)?;
+    rounder.finish(rt.alloc(), &mut rounded)?;
+    assert_rounded(
+        &rt,
+        &rounded,
+        b"0 0.000002 1 #\n1 2 0 #\r",
+        4,
+        (2, b"0.0000015"),
+    );
     Ok(())
 }
 

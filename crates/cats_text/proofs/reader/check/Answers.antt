@@ -10,8 +10,5 @@ returns-in_err-feed c =
     rw (reported.1, reported.2)
     (whole_reported c.args.text.now c.feed.new.self.bytes c.feed.new.self.limit c.in_err-feed.field-0.0 fed.limit fed.bytes fed.answer.0)
 
-pub returns-in_err-header : goal.returns-in_err-header
-returns-in_err-header c = search (rules, err_from_is_err_and)
-
 pub returns : goal.returns
 returns c = search rules
