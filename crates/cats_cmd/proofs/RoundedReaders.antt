@@ -1,6 +1,7 @@
 -- A reader of a text whose prices are rounded while it comes: one more piece, the end, and its faults.
 use Rattle.cats_cmd.proofs.Common.{◌≡◌, ◌⊎◌, ◌≤◌, ℕ, Bool, true, false, List, [], ◌++◌, length, take, drop, filter, Option, Some, None, Result, Ok, Err}
-use Rattle.cats_cmd.proofs.Common.{inl, inr, refl, sym, ap, ◌∙◌, subst, arith, ◌==◌, append_assoc, append-nil, length-append, filter-append, first_fault, fault_at}
+use Rattle.cats_cmd.proofs.Common.{inl, inr, refl, sym, ap, ◌∙◌, subst, arith, ◌==◌, append_assoc, append-nil, length-append}
+use Rattle.cats_cmd.proofs.Common.{filter-append, first_fault, fault_at}
 use Rattle.cats_cmd.proofs.Common.{ReadFault, Kind, TooLong, PriceRule, RoundedCount, rounded_count, rounded_text, rounded_prices, plain_changes, WantsMemory}
 use Rattle.cats_cmd.proofs.PricedInputs.{memory_on_no_line}
 use Rattle.cats_text.proofs.Texts.MachineAnswers.{complete_fault_stays}
@@ -169,7 +170,8 @@ module _ (rule : PriceRule) (bytes : List ℕ) where
   more_bytes : (piece : List ℕ) (fault : ReadFault) → IsFaultOf (λ rest. rounded_text rule (bytes ++ rest)) fault
       → IsFaultOf (λ rest. rounded_text rule ((bytes ++ piece) ++ rest)) fault
   more_bytes piece fault (inl memory) = inl memory
-  more_bytes piece fault (inr found) = inr (λ rest. ap (λ (t : List ℕ). first_fault (rounded_text rule t)) (append_assoc bytes piece rest) ∙ found (piece ++ rest))
+  more_bytes piece fault (inr found) =
+      inr (λ rest. ap (λ (t : List ℕ). first_fault (rounded_text rule t)) (append_assoc bytes piece rest) ∙ found (piece ++ rest))
 
   passed_by : {K : Type 0} (r : RoundedReader K) (piece : List ℕ) (fault : Option ReadFault) → (fault ≡ None → ⊥) → has_taken_by rule bytes fault r
       → has_taken_by rule (bytes ++ piece) fault r

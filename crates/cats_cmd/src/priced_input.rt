@@ -3,7 +3,8 @@
 ghost use Rattle.std.specs.Prelude.{◌≡◌, IfSome};
 ghost use Rattle.cats_cmd.specs.Internal.Roundings.{judged_of, plain_texts};
 ghost use Rattle.cats_cmd.specs.Internal.Gathering.{Gathers};
-ghost use Rattle.cats_cmd.specs.PricedInputs.{AnswersTexts, IsReady, both_counts, none_rounded, rounded_count, rounded_words};
+ghost use Rattle.cats_cmd.specs.PricedInputs.{AnswersTexts, IsReady, both_counts, none_rounded, rounded_count};
+ghost use Rattle.cats_cmd.specs.PricedInputs.{rounded_words};
 ghost use Rattle.cats_cmd.specs.PricedInputs.{rounding_line, rounding_lines, zeroed_words};
 ghost use Rattle.rounding.specs.Views.{plain_changes};
 ghost use Rattle.cats_cmd.specs.Reports.{Reports, ReportsAll};

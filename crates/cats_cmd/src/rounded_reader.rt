@@ -2,7 +2,8 @@
 
 ghost use Rattle.std.specs.Prelude.{◌≡◌, ℕ, List, [], ◌++◌, None, false};
 ghost use Rattle.cats_text.specs.Streams.{has_ended, has_failed};
-ghost use Rattle.cats_cmd.specs.Internal.Roundings.{EndsAs, FeedsOn, HasTaken, IsSound, IsWorking, PassesOn, ReadsRounded, refusal_of_reader};
+ghost use Rattle.cats_cmd.specs.Internal.Roundings.{EndsAs, FeedsOn, HasTaken, IsSound, IsWorking, PassesOn, ReadsRounded};
+ghost use Rattle.cats_cmd.specs.Internal.Roundings.{refusal_of_reader};
 ghost use Rattle.rounding.specs.declared.replacement.PriceRule.{PriceRule as Rule};
 
 use crate::bytes::PIECE;
@@ -57,7 +58,8 @@ impl<K: Keep> RoundedReader<K> {
     /// Rounds a piece and judges it, unless a fault was found before.
     fn take(&mut self, alloc: Global, piece: &[u8])
         requires { IsSound self.old }
-        ensures { (rule : Rule) (bytes : List ℕ) → HasTaken rule bytes self.old → HasTaken rule (bytes ++ piece.now) self.new }
+        ensures { (rule : Rule) (bytes : List ℕ) → HasTaken rule bytes self.old
+            → HasTaken rule (bytes ++ piece.now) self.new }
     {
         if self.fault.is_none() {
             self.fault = self.feed(alloc, piece).err();

@@ -10,7 +10,8 @@ pub use Rattle.cats_text.specs.Faults.{number_word, price_word, bid_end, header_
 pub use Rattle.cats_text.specs.Fed.{Fed, fed_fault}
 pub use Rattle.cats_text.specs.FileLines.{bid_of, put_slot, filled, before_end, real_goods, dummy_in, slots_of, file_of_lines, spelled_file, rising_of}
 pub use Rattle.cats_text.specs.Grammar.{Spells, line_number, SpellsBid, AreDistinct, SpellsNumber, significant_words, SpellsPrice}
-pub use Rattle.cats_text.specs.Internal.Kept.{whole, is_some_bid, number_alone, slot_at, arrived, AreWithin, IsPadded, arrivals_to, with_goods}
+pub use Rattle.cats_text.specs.Internal.Kept.{is_some_bid, slot_at, arrived, AreWithin, IsPadded, arrivals_to}
+pub use Rattle.cats_text.specs.Keeps.{whole, number_alone, with_goods}
 pub use Rattle.cats_text.specs.Internal.LeadingToken.{IsLeadingToken, IsNumberSoFar, IsPlain, IsLetter, IsKept, ends_word}
 pub use Rattle.cats_text.specs.Internal.Machine.{summary, word_from, word_with, decimal_with, keyword_text, place_value_of}
 pub use Rattle.cats_text.specs.Internal.Marks.{IsMarked, IsListed}

@@ -10,5 +10,6 @@ pub mod Streams
 pub mod Examples
 pub mod FileLines
 pub mod Fed
+pub mod Keeps
 pub mod Reading
 pub mod Internal

@@ -3,7 +3,8 @@
 ghost use Rattle.std.specs.Prelude.{◌≡◌, ◌<◌, ℕ, [], length, slice_get, IfOk, OnOk, OnErr};
 ghost use Rattle.std.specs.Bool.{OnTrue};
 ghost use Rattle.cats_text.specs.FileLines.{put_slot, filled};
-ghost use Rattle.cats_text.specs.Internal.Kept.{is_some_bid, with_goods, arrivals_to, AreWithin, IsPadded};
+ghost use Rattle.cats_text.specs.Internal.Kept.{is_some_bid, arrivals_to, AreWithin, IsPadded};
+ghost use Rattle.cats_text.specs.Keeps.{with_goods};
 
 use crate::keep::Keep;
 use crate::parser::Draft;

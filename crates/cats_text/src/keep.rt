@@ -3,7 +3,7 @@
 ghost use Rattle.std.specs.Prelude.{◌≡◌, ◌<◌, [], ◌∷◌, ◌++◌, List, Some, length, slice_get, replicate, OnOk, OnErr};
 ghost use Rattle.bid_file.specs.Files.{PlainBid};
 ghost use Rattle.cats_text.specs.FileLines.{rising_of};
-ghost use Rattle.cats_text.specs.Internal.Kept.{whole, number_alone, with_goods};
+ghost use Rattle.cats_text.specs.Keeps.{whole, number_alone, with_goods};
 
 use crate::good_list::GoodList;
 use crate::parser::Draft;

@@ -14,10 +14,10 @@ pub use Rattle.cats_text.specs.declared.read_fault.ReadFault.{ReadFault}
 pub use Rattle.rounding.specs.Answers.{IsRounded, RoundAnswer, SpellsRounded}
 pub use Rattle.rounding.specs.Decimals.{mantissa, raised, lowered}
 pub use Rattle.rounding.specs.Decimals.{is_decimal, top, bottom, exact_top, exact_bottom, significand, exponent, has_exponent, without_sign, digits}
-pub use Rattle.rounding.specs.Internal.RawTexts.{behind_line, first_line, has_line_end}
+pub use Rattle.rounding.specs.Internal.RawTexts.{behind_line, first_line}
 pub use Rattle.rounding.specs.Internal.Rests.{rest_with}
 pub use Rattle.rounding.specs.Internal.Values.{IsRest, Holds, shift_up, shift_down}
-pub use Rattle.rounding.specs.Pieces.{IsRounding, RoundsOn, RoundsAll, line_end, prices_with, rounded_with}
+pub use Rattle.rounding.specs.Pieces.{IsRounding, RoundsOn, RoundsAll, has_line_end, line_end, prices_with, rounded_with}
 pub use Rattle.rounding.specs.Nearest.{nearest, IsNearest}
 pub use Rattle.rounding.specs.Replacements.{replacement_of, replacement, rounded_word, replacement_text, is_kept}
 pub use Rattle.rounding.specs.Texts.{behind_blanks, leading_word, behind_word, from_second, before_second, second_word, behind_second, with_rounded}

@@ -1,8 +1,12 @@
 -- A text in pieces: a line that has ended, a line that has begun, and pieces one behind the other.
-use Rattle.rounding.proofs.Common.{if◌then◌else◌, ◌≡◌, ℕ, suc, ◌+◌, Bool, true, false, ◌&&◌, ◌||◌, eqb, leb, List, [], ◌∷◌, ◌++◌, refl, sym, ap, ◌∙◌}
-use Rattle.rounding.proofs.Common.{arith, append_assoc, append-nil, or_parts, eqb-true, list_any-append, RawLine, raw_lines, blank_returns, line_words, is_significant}
-use Rattle.rounding.proofs.Common.{with_rounded, second_word, replacement, change_by, rounded_lines, rounded_line, lines_text, line_text, lines_changes, line_changes}
-use Rattle.rounding.proofs.Common.{before_next, PlainRoundedPrice, plain_changes, first_line, behind_line, has_line_end, PriceRule, Rounder, RoundedText, IsRounding}
+use Rattle.rounding.proofs.Common.{if◌then◌else◌, ◌≡◌, ℕ, suc, ◌+◌, Bool, true, false, ◌&&◌, ◌||◌, eqb, leb, List, [], ◌∷◌, ◌++◌}
+use Rattle.rounding.proofs.Common.{refl, sym, ap, ◌∙◌}
+use Rattle.rounding.proofs.Common.{arith, append_assoc, append-nil, or_parts, eqb-true, list_any-append, RawLine, raw_lines}
+use Rattle.rounding.proofs.Common.{blank_returns, line_words, is_significant}
+use Rattle.rounding.proofs.Common.{with_rounded, second_word, replacement, change_by, rounded_lines, rounded_line, lines_text, line_text}
+use Rattle.rounding.proofs.Common.{lines_changes, line_changes}
+use Rattle.rounding.proofs.Common.{before_next, PlainRoundedPrice, plain_changes, first_line, behind_line, has_line_end, PriceRule, Rounder}
+use Rattle.rounding.proofs.Common.{RoundedText, IsRounding}
 use Rattle.rounding.proofs.Common.{RoundsOn, RoundsAll, line_end, prices_with, rounded_with, rounded_text, rounded_prices, common_steps}
 use Rattle.rounding.proofs.Common.{Result, Ok, Err, OnOk, ◌≤◌, subst, with_byte}
 use Rattle.cats_text.specs.Lines.{lines_with}
@@ -79,8 +83,8 @@ line_ended old new from to t1 significant is_bid more is er el en eb es ei em e1
     let line : RawLine = record { bytes = old.line.items; ended = true } in
     let written : IsLineWritten old.rule old.before old.number line from.text.items to.text.items (plain_changes from.prices.items)
     (plain_changes to.prices.items) =
-    line_written old.rule old.line.items from.text.items t1 to.text.items (plain_changes from.prices.items) (plain_changes to.prices.items) old.before old.number
-    significant is_bid true es ei e1 e2 ep in
+    line_written old.rule old.line.items from.text.items t1 to.text.items (plain_changes from.prices.items)
+    (plain_changes to.prices.items) old.before old.number significant is_bid true es ei e1 e2 ep in
     let after : new.before ≡ before_next old.before line = eb ∙ next_before old.before line significant more es em in
     let one : new.number ≡ suc old.number = omega (arith, en) in
     let few : more ≤ 1 = at_most_one significant more em in

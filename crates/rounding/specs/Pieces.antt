@@ -1,11 +1,15 @@
 -- A text that is rounded in pieces.
-use Rattle.std.specs.Prelude.{◌≡◌, ◌<◌, ℕ, Bool, false, List, [], ◌∷◌, ◌++◌, if◌then◌else◌}
+use Rattle.std.specs.Prelude.{◌≡◌, ◌<◌, ◌==◌, ℕ, Bool, false, List, [], ◌∷◌, ◌++◌, if◌then◌else◌}
+use Rattle.std.specs.List.{list_any}
 use Rattle.cats_text.specs.Lines.{raw_lines}
-use Rattle.rounding.specs.Internal.RawTexts.{has_line_end}
 use Rattle.rounding.specs.Texts.{PlainRoundedPrice, lines_changes, lines_text, rounded_lines}
 use Rattle.rounding.specs.Views.{plain_changes}
 use Rattle.rounding.specs.declared.rounder.Rounder.{Rounder}
 use Rattle.rounding.specs.declared.text.RoundedText.{RoundedText}
+
+-- whether a line ends in a text
+abbrev pub has_line_end : List ℕ → Bool
+has_line_end text = list_any (λ b. b == 10) text
 
 -- no line has ended in the bytes that are held, and the number of their line counts the lines before it
 pub record IsRounding (rounder : Rounder) : Type 0 where
@@ -20,8 +24,9 @@ rounded_with r bytes = lines_text (rounded_lines r.rule r.before (raw_lines (r.l
 abbrev pub prices_with : Rounder → List ℕ → List PlainRoundedPrice
 prices_with r bytes = lines_changes r.rule r.number r.before (raw_lines (r.line.items ++ bytes))
 
--- Of a piece the bytes before these were rounded, whatever follows it. What was written before, and the rounded text of the
--- piece and what follows, is what is written now, and the rounded text of these bytes and what follows. So are the prices.
+-- Of a piece the bytes before these were rounded, whatever follows it. What was written before, and the rounded text of
+-- the piece and what follows, is what is written now, and the rounded text of these bytes and what follows. So are the
+-- prices.
 pub record RoundsOn (old : Rounder) (piece : List ℕ) (new : Rounder) (behind : List ℕ)
     (from to : RoundedText) : Type 0 where
   pub holds : IsRounding new

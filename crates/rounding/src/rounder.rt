@@ -1,8 +1,7 @@
 //! `Rounder`: the prices of a text that comes in pieces.
 
 ghost use Rattle.std.specs.Prelude.{◌≡◌, ◌++◌, ℕ, List, [], OnOk, false, true};
-ghost use Rattle.rounding.specs.Internal.RawTexts.{has_line_end};
-ghost use Rattle.rounding.specs.Pieces.{IsRounding, RoundsAll, RoundsOn, line_end, prices_with, rounded_with};
+ghost use Rattle.rounding.specs.Pieces.{IsRounding, RoundsAll, RoundsOn, has_line_end, line_end, prices_with, rounded_with};
 ghost use Rattle.rounding.specs.Texts.{rounded_prices, rounded_text};
 
 use crate::line::is_significant;

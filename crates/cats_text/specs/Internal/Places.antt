@@ -5,7 +5,7 @@ use Rattle.std.specs.Prelude.{Result, Ok, Err}
 use Rattle.cats_text.specs.Lines.{Word, RawLine, raw_lines, blank_returns, line_words, is_significant}
 use Rattle.cats_text.specs.FaultPlaces.{PlainPlace}
 use Rattle.cats_text.specs.Views.{plain_place}
-use Rattle.cats_text.specs.Internal.Kept.{number_alone}
+use Rattle.cats_text.specs.Keeps.{number_alone}
 use Rattle.cats_text.specs.Internal.Machine.{summary}
 use Rattle.cats_text.specs.Internal.Parsing.{Reading, word_read, line_read}
 use Rattle.cats_text.specs.Internal.Progress.{Progress, progress, Stops}

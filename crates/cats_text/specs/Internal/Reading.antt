@@ -6,7 +6,7 @@ use Rattle.cats_text.specs.Grammar.{Spells}
 use Rattle.bid_file.specs.Files.{PlainBid, PlainFile}
 use Rattle.bid_file.specs.Views.{plain_file}
 use Rattle.bid_file.specs.declared.bid.BidFile.{BidFile}
-use Rattle.cats_text.specs.Internal.Kept.{whole}
+use Rattle.cats_text.specs.Keeps.{whole}
 use Rattle.cats_text.specs.Views.{HasSizes}
 use Rattle.cats_text.specs.Fed.{Fed}
 use Rattle.cats_text.specs.Internal.Returns.{settled, waits}

@@ -11,4 +11,5 @@ returns-in_err-reader-clause-memory g c =
 pub returns-in_err-file-clause-memory : goal.returns-in_err-file-clause-memory
 returns-in_err-file-clause-memory g c =
     let reported = err_from_is_err_and c.from_residual-in_err-file.result c.from_residual-in_err-file.ensures.1 in
-    rw reported.1 (rw reported.2 (finishing_memory_on_no_line _ c.in_ok-reader.reader c.in_err-file.field-0.0 c.in_ok-reader.ensures.ends.works c.in_err-file.ensures))
+    rw reported.1 (rw reported.2
+    (finishing_memory_on_no_line _ c.in_ok-reader.reader c.in_err-file.field-0.0 c.in_ok-reader.ensures.ends.works c.in_err-file.ensures))

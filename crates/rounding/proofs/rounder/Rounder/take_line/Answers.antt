@@ -6,7 +6,8 @@ use Rattle.rounding.proofs.rounder.Rounder.take_line.Goals as goal
 pub returns-then-ended : goal.returns-then-ended
 returns-then-ended c =
     rw c.if-ended.true
-    (on_ok_weaker c.end_line.result (held_before c.args.self.now _ c.args.bytes.now refl refl refl c.in_ok-extend_from_slice.ensures.items (line_end true) _ _ _)
+    (on_ok_weaker c.end_line.result
+    (held_before c.args.self.now _ c.args.bytes.now refl refl refl c.in_ok-extend_from_slice.ensures.items (line_end true) _ _ _)
     c.end_line.ensures)
 
 pub returns-else-ended : goal.returns-else-ended
