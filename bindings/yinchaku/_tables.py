@@ -215,8 +215,8 @@ def difference_of(line: bytes) -> Difference:
 
 
 def changes_of(printed: bytes) -> Rows[Change]:
-    """For each price whose value changed, `line L: WORD rounded to PRICE`."""
-    return Rows(printed.splitlines(), change_of, Change._fields)
+    """For each price whose value changed, `line L: WORD rounded to PRICE`. Lines on what was mended are left out."""
+    return Rows([line for line in printed.splitlines() if b" rounded to " in line], change_of, Change._fields)
 
 
 def change_of(line: bytes) -> Change:

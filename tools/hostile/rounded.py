@@ -19,7 +19,7 @@ from decimal import Decimal
 from functools import lru_cache
 
 from commands import LINES
-from rounding import MIXED, OTHER_TEXTS, PLAIN, RETURNS, ROWS, Answer, judge, latin, price_of, run, text_of
+from rounding import MENDED_TEXTS, MIXED, OTHER_TEXTS, PLAIN, RETURNS, ROWS, Answer, judge, latin, price_of, run, text_of
 from tally import KINDS, TALLY, some_of
 
 GENERATE = sys.argv[2]
@@ -48,11 +48,18 @@ def rounding_of(text, exact):
 
 
 def report(path, rounding):
-    """The line that says how many prices of the file at a path were rounded, and how many to 0, if its rounded text is a bid file and one was."""
-    many = 0 if rounding.status else rounding.err.count(b"\n")
+    """The lines that say how many lines of the file at a path were mended, how many of its prices were rounded, and how many of these to 0."""
+    lines = [] if rounding.status else rounding.err.splitlines()
+    many = prices_in(rounding.err) if lines else 0
+    mended = len(lines) - many
     zeroed = rounding.err.count(b" rounded to 0\n")
     behind = b", %d to 0" % zeroed if zeroed else b""
-    return b"" if many == 0 else path + b": %d price%s rounded%s\n" % (many, b"" if many == 1 else b"s", behind)
+    mends = path + b": %d line%s mended\n" % (mended, b"" if mended == 1 else b"s") if mended else b""
+    return mends + (b"" if many == 0 else path + b": %d price%s rounded%s\n" % (many, b"" if many == 1 else b"s", behind))
+
+
+def prices_in(reports):
+    return reports.count(b" rounded to ")
 
 
 # ---- one file
@@ -73,7 +80,7 @@ def texts():
     exact = [word for word in taken if not price_of(word, True).fault]
     valid = [word for word in exact if price_of(word, True).text == word]
     refused = [word for word, *_ in ROWS if price_of(word, False).fault and len(word) < 20]
-    found = [b"", *(latin(text) for text, _ in OTHER_TEXTS)]
+    found = [b"", *(latin(text) for text, *_ in [*OTHER_TEXTS, *MENDED_TEXTS])]
     for form in (PLAIN, RETURNS, MIXED):
         for words in (valid, exact, taken, [*valid, "0.0123456"], *([*taken[:3], word, "1e3"] for word in choose.sample(refused, 8))):
             some = choose.sample(words, min(len(words), choose.randrange(1, 12))) if choose.random() < 0.5 else words
@@ -234,7 +241,7 @@ def wanted_row(row, rounding):
     """The row of a file by that of its rounded copy: of one that is judged, how many prices were rounded, and how many to 0, are known."""
     cells = row.split(b"\t")
     if cells[6]:
-        cells[6:8] = b"%d" % rounding.err.count(b"\n"), b"%d" % rounding.err.count(b" rounded to 0\n")
+        cells[6:8] = b"%d" % prices_in(rounding.err), b"%d" % rounding.err.count(b" rounded to 0\n")
     return b"\t".join(cells)
 
 

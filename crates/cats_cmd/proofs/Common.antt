@@ -136,7 +136,7 @@ pub use Rattle.commands.specs.declared.faults.RunFault.TheVariants.{NotOpened, N
 pub use Rattle.commands.specs.declared.faults.Unwritten.{Unwritten}
 pub use Rattle.prune.specs.SearchSteps.{first_refused}
 pub use Rattle.rounding.specs.Answers.{IsRounded}
-pub use Rattle.rounding.specs.Texts.{rounded_prices, rounded_text}
+pub use Rattle.rounding.specs.Rounded.{rounded_prices, rounded_text}
 pub use Rattle.rounding.specs.Views.{plain_change, plain_changes}
 pub use Rattle.rounding.specs.declared.replacement.PriceRule.{PriceRule}
 pub use Rattle.rounding.specs.declared.text.RoundedPrice.{RoundedPrice}

@@ -8,6 +8,8 @@ use Rattle.cats_cmd.proofs.ReadingBytes.{unread_stream}
 use Rattle.cats_cmd.proofs.Common.{Some, Kind, first_fault, first_fault-of_bytes, refusal_by_kind, CanonFault, Read, Memory}
 use Rattle.cats_text.specs.declared.read_fault.Kind.TheVariants.{Memory as NoMemory}
 use Rattle.rounding.specs.Answers.{RoundAnswer, WantsMemoryToRound}
+use Rattle.rounding.specs.declared.layout.MendedLine.{MendedLine}
+use Rattle.commands.specs.Round.{mend_line}
 
 -- ---- why a text is not rounded
 
@@ -36,6 +38,14 @@ reported_more messages prices i d l a b c before now =
       map-append rounded_line (plain_changes (take i prices)) (plain_change (get_or prices i d) ∷ []),
     )
     (reports_more messages (map rounded_line (plain_changes (take i prices))) (last ∷ []) a b c before (c, now, refl))
+
+pub mends_more : {E : Type 0} (messages : E → Option (List ℕ)) (mends : List MendedLine) (i : ℕ) (d : MendedLine) → i < length mends
+    → (a b c : Watched E) → ReportsAll messages (map mend_line (take i mends)) a b
+    → Reports messages (mend_line (get_or mends i d)) b c → ReportsAll messages (map mend_line (take (i + 1) mends)) a c
+mends_more messages mends i d l a b c before now =
+    let last = mend_line (get_or mends i d) in
+    rw (take_more mends i d l, map-append mend_line (take i mends) (get_or mends i d ∷ []))
+    (reports_more messages (map mend_line (take i mends)) (last ∷ []) a b c before (c, now, refl))
 
 -- ---- the run
 

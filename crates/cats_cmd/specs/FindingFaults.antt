@@ -1,5 +1,6 @@
 -- What `cats fault` prints and reports. It prints where the first fault of each text is, with what helps against it.
-use Rattle.std.specs.Prelude.{◌≡◌, ◌==◌, ℕ, Bool, not, false, List, [], if◌then◌else◌, Option, Some, Ok}
+use Rattle.std.specs.Prelude.{◌≡◌, ◌==◌, ◌-◌, ◌&&◌, nat_lt, ℕ, Bool, not, true, false, List, [], if◌then◌else◌, Option}
+use Rattle.std.specs.Prelude.{Some, Ok, filter, length}
 use Rattle.std.specs.List.{flat_map}
 use Rattle.std.specs.Option.{option_map_or}
 use Rattle.cats_text.specs.FaultPlaces.{PlainPlace, first_place}
@@ -9,6 +10,10 @@ use Rattle.commands.specs.Fault.{place_text, shown_bytes}
 use Rattle.commands.specs.Judgements.{Judgement, IsRead}
 use Rattle.commands.specs.declared.faults.RunFault.{RunFault}
 use Rattle.commands.specs.declared.faults.RunFault.TheVariants.{Refused}
+use Rattle.rounding.specs.Layouts.{mended_places}
+use Rattle.rounding.specs.declared.layout.Mend.{Mend}
+use Rattle.rounding.specs.declared.layout.Mend.TheVariants.{Dummy}
+use Rattle.rounding.specs.declared.layout.MendedLine.{MendedLine}
 use Rattle.cats_cmd.specs.Escaping.{escaped}
 use Rattle.cats_cmd.specs.Paths.{Reporting, refusal_lines}
 use Rattle.cats_cmd.specs.declared.paths.Progress.{Progress}
@@ -19,9 +24,25 @@ use Rattle.cats_cmd.specs.declared.paths.Progress.{Progress}
 abbrev pub text_of_place : List ℕ → ℕ → PlainPlace → List ℕ
 text_of_place path column place = place_text (escaped path) (escaped (shown_bytes place.text)) column place
 
+abbrev pub is_put_in : Mend → Bool
+is_put_in Dummy = true
+is_put_in mend = false
+
+-- the lines that are put in before a line of a mended text, counted
+abbrev pub put_in_before : ℕ → List MendedLine → ℕ
+put_in_before line mends = length (filter (λ m. is_put_in m.mend && nat_lt m.line line) mends)
+
+-- the place in the file's own lines, of a place in what it becomes when it is mended
+abbrev pub place_in_file : List ℕ → PlainPlace → PlainPlace
+place_in_file bytes place = record place { line = place.line - put_in_before place.line (mended_places bytes) }
+
+-- of a file at this path with these bytes, by a place in them
+abbrev pub text_at : List ℕ → List ℕ → PlainPlace → List ℕ
+text_at path bytes place = text_of_place path (column_of bytes place) (place_in bytes place)
+
 -- of the bytes of a file at this path, of which a text is judged that has its first fault at this place
 abbrev pub text_of_fault : List ℕ → List ℕ → PlainPlace → List ℕ
-text_of_fault path bytes place = text_of_place path (column_of bytes place) (place_in bytes place)
+text_of_fault path bytes place = text_at path bytes (place_in_file bytes place)
 
 -- of the file at a path: of one without a fault, or that was not read, nothing
 abbrev pub fault_text : List ℕ → Judgement → List ℕ

@@ -3,7 +3,7 @@ use Rattle.std.specs.Prelude.{◌≡◌, ℕ, List, Option, Some, None}
 use Rattle.bid_file.specs.Files.{PlainFile}
 use Rattle.cats_text.specs.Grammar.{Spells}
 use Rattle.commands.specs.Outcomes.{Outcome, Prints}
-use Rattle.rounding.specs.Texts.{rounded_text}
+use Rattle.rounding.specs.Rounded.{rounded_text}
 use Rattle.rounding.specs.declared.replacement.PriceRule.{PriceRule}
 
 -- the text that is read: with its prices as they are written, or rounded

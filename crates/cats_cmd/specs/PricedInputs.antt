@@ -10,7 +10,9 @@ use Rattle.cats_text.specs.declared.read_fault.ReadFault.{ReadFault}
 use Rattle.cats_text.specs.declared.stream.Watched.{Watched}
 use Rattle.commands.specs.Inputs.{StreamGives, StreamRefuses}
 use Rattle.commands.specs.Judgements.{Judgement, IsJudged, IsPublished, IsRead, JudgesInput}
-use Rattle.rounding.specs.Texts.{PlainRoundedPrice, rounded_prices, rounded_text}
+use Rattle.rounding.specs.Layouts.{mended_places}
+use Rattle.rounding.specs.Rounded.{rounded_prices, rounded_text}
+use Rattle.rounding.specs.Texts.{PlainRoundedPrice}
 use Rattle.rounding.specs.declared.replacement.PriceRule.{PriceRule}
 use Rattle.valuation.specs.declared.search.options.SearchOptions.{SearchOptions}
 use Rattle.cats_cmd.specs.Escaping.{escaped}
@@ -18,13 +20,14 @@ use Rattle.cats_cmd.specs.Inputs.{IsOpened, ReadsAll, StopsReading, WantsMemoryF
 use Rattle.cats_cmd.specs.declared.priced_input.PricedInput.{PricedInput}
 use Rattle.cats_cmd.specs.declared.priced_input.RoundedCount.{RoundedCount}
 
--- so many prices were rounded, of which so many are 0 now
+-- so many prices were rounded, of which so many are 0 now, and nothing was mended
 abbrev pub counted : ℕ → ℕ → RoundedCount
-counted count zeroed = record { count = count; zeroed = zeroed }
+counted count zeroed = record { count = count; zeroed = zeroed; mended = 0 }
 
--- how many prices were rounded, and how many of them are 0 now
-abbrev pub rounded_count : List PlainRoundedPrice → RoundedCount
-rounded_count prices = counted (length prices) (length (filter (λ p. p.price == 0) prices))
+-- how many prices were rounded, how many of them are 0 now, and how often something was mended
+abbrev pub rounded_count : List PlainRoundedPrice → ℕ → RoundedCount
+rounded_count prices mended =
+    record { count = length prices; zeroed = length (filter (λ p. p.price == 0) prices); mended = mended }
 
 -- no price was rounded
 abbrev pub none_rounded : RoundedCount
@@ -53,7 +56,7 @@ module _ {R : Type 0} (remaining : R → Option (List ℕ)) where
     pub bytes : List ℕ
     pub all : ReadsAll remaining old.stream new.stream bytes
     pub spells : Spells (rounded_text rule bytes) file
-    pub count : new.rounded ≡ rounded_count (rounded_prices rule bytes)
+    pub count : new.rounded ≡ rounded_count (rounded_prices rule bytes) (length (mended_places bytes))
 
   abbrev pub gives_by : Option PriceRule → PricedInput R → PricedInput R → PlainFile → Type 0
   gives_by None old new file = GivesAsWritten old new file
@@ -134,6 +137,13 @@ abbrev pub rounding_line : List ℕ → RoundedCount → List ℕ
 rounding_line path rounded = escaped path ++ codes ": " ++ decimal rounded.count ++ rounded_words rounded.count
     ++ zeroed_words rounded.zeroed ++ codes "\n"
 
--- the line on how many prices of a file were rounded, if any
+abbrev pub mended_words : ℕ → List ℕ
+mended_words mended = if mended == 1 then codes " line mended" else codes " lines mended"
+
+abbrev pub mended_line : List ℕ → ℕ → List ℕ
+mended_line path mended = escaped path ++ codes ": " ++ decimal mended ++ mended_words mended ++ codes "\n"
+
+-- the lines on how many lines of a file were mended, and how many of its prices were rounded, if any
 abbrev pub rounding_lines : List ℕ → RoundedCount → List (List ℕ)
-rounding_lines path rounded = if rounded.count == 0 then [] else rounding_line path rounded ∷ []
+rounding_lines path rounded = (if rounded.mended == 0 then [] else mended_line path rounded.mended ∷ [])
+    ++ (if rounded.count == 0 then [] else rounding_line path rounded ∷ [])

@@ -1,5 +1,5 @@
 -- What `cats round` does. It reads bytes, sends the text with their prices rounded, and reports.
-use Rattle.std.specs.Prelude.{◌≡◌, ◌⊎◌, ℕ, Bool, false, List, length, map, Option, Result, Ok, Err}
+use Rattle.std.specs.Prelude.{◌≡◌, ◌⊎◌, ◌++◌, ℕ, Bool, false, List, length, map, Option, Result, Ok, Err}
 use Rattle.bid_file.specs.Files.{PlainFile}
 use Rattle.cats_text.specs.Grammar.{Spells}
 use Rattle.cats_text.specs.declared.stream.Watched.{Watched}
@@ -8,9 +8,10 @@ use Rattle.canon.specs.declared.canon_fault.CanonFault.TheVariants.{Read, StepLi
 use Rattle.canon.specs.declared.which.Which.{Which}
 use Rattle.canon.specs.declared.which.Which.TheVariants.{Only}
 use Rattle.rounding.specs.Answers.{WantsMemoryToRound}
-use Rattle.rounding.specs.Texts.{rounded_prices, rounded_text}
+use Rattle.rounding.specs.Layouts.{mended_places}
+use Rattle.rounding.specs.Rounded.{rounded_prices, rounded_text}
 use Rattle.rounding.specs.declared.replacement.PriceRule.{PriceRule}
-use Rattle.commands.specs.Round.{rounded_line}
+use Rattle.commands.specs.Round.{mend_line, rounded_line}
 use Rattle.cats_cmd.specs.Inputs.{ReadsAll, StopsReading, WantsMemoryForBytes}
 use Rattle.cats_cmd.specs.PricedInputs.{HasRoundedFault}
 use Rattle.commands.specs.Outcomes.{Outcome, Prints}
@@ -33,10 +34,11 @@ module _ {R W E : Type 0} (remaining : R → Option (List ℕ)) (contents : W �
     pub file : PlainFile
     pub spells : Spells (rounded_text rule bytes) file
 
-  -- and the prices whose values changed were reported
+  -- and what was mended, and then the prices whose values changed, were reported
   pub record ReadsAndReports (old new : Watched R) (err err_after : Watched E) (bytes : List ℕ) : Type 0 where
     pub reads : ReadsRoundable old new bytes
-    pub reports : ReportsAll messages (map rounded_line (rounded_prices rule bytes)) err err_after
+    pub reports : ReportsAll messages (map mend_line (mended_places bytes)
+        ++ map rounded_line (rounded_prices rule bytes)) err err_after
 
   -- memory is refused to round the bytes that were read: a bid line has begun, or the rounded text spells a file
   pub record WantsMemoryForRounding (old new : Watched R) : Type 0 where

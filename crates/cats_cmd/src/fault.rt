@@ -2,7 +2,7 @@
 
 ghost use Rattle.std.specs.Prelude.{◌≡◌, ◌++◌, OnOk};
 ghost use Rattle.cats_text.specs.Views.{plain_place};
-ghost use Rattle.cats_cmd.specs.FindingFaults.{is_placed, text_of_fault};
+ghost use Rattle.cats_cmd.specs.FindingFaults.{is_placed, put_in_before, text_at, text_of_fault};
 
 use crate::escaping::escaped;
 use crate::paths::{Added, Collection, ManyFiles, report_if_refused};
@@ -13,8 +13,17 @@ use cats_text::fault_place::{FaultPlace, place_of_fault};
 use cats_text::{ReadFault, Watched};
 use commands::fault::{column_of, fault_place_text, place_in, shown_word};
 use commands::faults::{RunFault, Unopened};
+use rounding::layout::{Mend, MendedLine};
+use rounding::replacement::{FinePrices, PriceRule};
+use rounding::text::round_prices;
 use std::alloc::{AllocError, AllocGlobal, Global};
 use std::io::{Read, Write};
+
+/// The rule by which a file is mended here. What becomes of its prices does not count.
+const MENDING: PriceRule = PriceRule {
+    fine: FinePrices::Round,
+    tens: 0,
+};
 
 /// What is printed of the files so far.
 #[derive(Drop)]
@@ -130,6 +139,40 @@ fn push_fault(
     place: &FaultPlace<'_>,
 ) -> Result<(), AllocError>
     ensures { OnOk result (text.new.items ≡ text.old.items ++ text_of_fault path.now bytes.now (plain_place place.now)) }
+{
+    let mends = round_prices(alloc, bytes, MENDING)?.mends;
+    let before = put_in_before(mends.as_slice(), place.line);
+    let place = FaultPlace {
+        line: place.line.saturating_sub(before),
+        word: place.word,
+        text: place.text,
+        kind: place.kind,
+    };
+    push_fault_at(alloc, text, path, bytes, &place)
+}
+
+/// The lines that are put in before a line of a mended text, counted.
+fn put_in_before(mends: &[MendedLine], line: u64) -> u64
+    ensures { result ≡ put_in_before line mends.now }
+{
+    let mut count = 0;
+    for mended in mends {
+        if mended.mend == Mend::Dummy && mended.line < line {
+            count += 1;
+        }
+    }
+    count
+}
+
+/// The same, of a place in the file's own lines.
+fn push_fault_at(
+    alloc: Global,
+    text: &mut Vec<u8>,
+    path: &[u8],
+    bytes: &[u8],
+    place: &FaultPlace<'_>,
+) -> Result<(), AllocError>
+    ensures { OnOk result (text.new.items ≡ text.old.items ++ text_at path.now bytes.now (plain_place place.now)) }
 {
     let place = place_in(bytes, place);
     let path = escaped(alloc, path)?;

@@ -1,11 +1,11 @@
 //! A stream of which a bid file is read, with its prices as they are written, or rounded.
 
-ghost use Rattle.std.specs.Prelude.{◌≡◌, false};
+ghost use Rattle.std.specs.Prelude.{◌≡◌, ◌==◌, ◌∷◌, [], false, if◌then◌else◌};
 ghost use Rattle.cats_text.specs.Streams.{has_ended, has_failed};
 ghost use Rattle.cats_cmd.specs.Internal.Roundings.{ReadsRounded, judged_of, plain_texts};
 ghost use Rattle.cats_cmd.specs.Internal.Gathering.{Gathers};
 ghost use Rattle.cats_cmd.specs.PricedInputs.{AnswersTexts, IsReady, none_rounded, rounded_count, rounded_words};
-ghost use Rattle.cats_cmd.specs.PricedInputs.{rounding_line, rounding_lines, zeroed_words};
+ghost use Rattle.cats_cmd.specs.PricedInputs.{mended_line, mended_words, rounding_line, rounding_lines, zeroed_words};
 ghost use Rattle.rounding.specs.Views.{plain_changes};
 ghost use Rattle.cats_cmd.specs.Reports.{Reports, ReportsAll};
 
@@ -30,17 +30,19 @@ pub(crate) struct PricedInput<R> {
     rounded: RoundedCount,
 }
 
-/// How many prices have another value than is written.
+/// How many prices have another value than is written, and how often something was mended.
 #[derive(Clone, Copy)]
 pub struct RoundedCount {
     pub count: usize,
     /// How many of them are 0 now.
     pub zeroed: usize,
+    pub mended: usize,
 }
 
 pub(crate) const NONE_ROUNDED: RoundedCount = RoundedCount {
     count: 0,
     zeroed: 0,
+    mended: 0,
 };
 
 impl<R: Read> Input for PricedInput<R> {
@@ -157,7 +159,7 @@ fn read_rounded<R: Read>(
     let bytes = read_bytes(alloc, stream)?;
     match round_prices(alloc, bytes.as_slice(), rule) {
         Ok(rounded) => {
-            let count = rounded_count(rounded.prices.as_slice());
+            let count = rounded_count(rounded.prices.as_slice(), rounded.mends.len());
             Ok((rounded.text, count))
         }
         Err(AllocError) => Err(ReadFault::whole(Kind::Memory)),
@@ -165,8 +167,8 @@ fn read_rounded<R: Read>(
 }
 
 /// How many prices were rounded, and how many of them are 0 now.
-fn rounded_count(prices: &[RoundedPrice]) -> RoundedCount
-    ensures { result ≡ rounded_count (plain_changes prices.now) }
+fn rounded_count(prices: &[RoundedPrice], mended: usize) -> RoundedCount
+    ensures { result ≡ rounded_count (plain_changes prices.now) mended }
 {
     let mut zeroed = 0;
     for price in prices {
@@ -177,15 +179,55 @@ fn rounded_count(prices: &[RoundedPrice]) -> RoundedCount
     RoundedCount {
         count: prices.len(),
         zeroed,
+        mended,
     }
 }
 
-/// Reports how many prices of the file at this path were rounded, if any was.
+/// Reports how many lines of the file at this path were mended, and how many of its prices were rounded, if any.
 pub(crate) fn report_rounded<E: Write>(path: &[u8], rounded: RoundedCount, err: &mut Watched<E>)
     ensures { ReportsAll E.contents (rounding_lines path.now rounded) err.old err.new }
 {
+    report_if_mended(path, rounded.mended, err);
+    report_if_rounded(path, rounded, err);
+}
+
+fn report_if_mended<E: Write>(path: &[u8], mended: usize, err: &mut Watched<E>)
+    ensures { ReportsAll E.contents (if mended == 0 then [] else mended_line path.now mended ∷ []) err.old err.new }
+{
+    if mended > 0 {
+        report_mended_count(path, mended, err);
+    }
+}
+
+fn report_if_rounded<E: Write>(path: &[u8], rounded: RoundedCount, err: &mut Watched<E>)
+    ensures { ReportsAll E.contents (if rounded.count == 0 then [] else rounding_line path.now rounded ∷ []) err.old
+        err.new }
+{
     if rounded.count > 0 {
         report_rounded_count(path, rounded, err);
+    }
+}
+
+fn report_mended_count<E: Write>(path: &[u8], mended: usize, err: &mut Watched<E>)
+    ensures { Reports E.contents (mended_line path.now mended) err.old err.new }
+{
+    let mut line = LineBuffer::new();
+    line.push_escaped(err, path);
+    line.push(err, b": ");
+    line.push_number(err, mended as u64);
+    line.push(err, mended_words(mended).as_bytes());
+    line.push(err, b"\n");
+    line.send(err);
+}
+
+/// What is behind the number.
+fn mended_words(mended: usize) -> &'static str
+    ensures { result.now ≡ mended_words mended }
+{
+    if mended == 1 {
+        " line mended"
+    } else {
+        " lines mended"
     }
 }
 

@@ -27,7 +27,7 @@ ghost use Rattle.cats_cmd.specs.SizesTables.{MakesTable, row};
 ghost use Rattle.cats_cmd.specs.Rounding.{round_outcome};
 ghost use Rattle.cats_cmd.specs.PricedInputs.{PricedGives, PricedRefuses, counted, none_rounded, rounded_count};
 ghost use Rattle.cats_cmd.specs.PricedInputs.{rounding_lines};
-ghost use Rattle.rounding.specs.Texts.{rounded_prices};
+ghost use Rattle.rounding.specs.Rounded.{rounded_prices};
 ghost use Rattle.rounding.specs.Replacements.{price_rule};
 ghost use Rattle.rounding.specs.declared.replacement.FinePrices.TheVariants.{Refuse, Round};
 ghost use Rattle.cats_cmd.specs.Runs.{SendsMadeAs};
@@ -184,10 +184,13 @@ pub fn report_of_path_lost()
 /// none of them.
 pub fn roundings_reported()
     ensures counted { rounded_count (rounded_prices (price_rule Round 0)
-        (codes "goods 1\nbids 4\ndummy 0\n0 1e-7 0 #\n1 0.0123456 0 #\n2 0 0 #\n3 0e5 0 #\n")) ≡ counted 2 1 }
+        (codes "goods 1\nbids 4\ndummy 0\n0 1e-7 0 #\n1 0.0123456 0 #\n2 0 0 #\n3 0e5 0 #\n")) 0 ≡ counted 2 1 }
     ensures lines { map (rounding_lines (codes "a\\b")) (none_rounded ∷ counted 1 0 ∷ counted 1288 0 ∷ counted 3 1 ∷ counted 1 1 ∷ []) ≡
         [] ∷ (codes "a\\\\b: 1 price rounded\n" ∷ []) ∷ (codes "a\\\\b: 1288 prices rounded\n" ∷ [])
         ∷ (codes "a\\\\b: 3 prices rounded, 1 to 0\n" ∷ []) ∷ (codes "a\\\\b: 1 price rounded, 1 to 0\n" ∷ []) ∷ [] }
+    ensures mended { map (rounding_lines (codes "a")) (record { count = 0; zeroed = 0; mended = 1 }
+        ∷ record { count = 2; zeroed = 0; mended = 3 } ∷ []) ≡ (codes "a: 1 line mended\n" ∷ [])
+        ∷ (codes "a: 3 lines mended\n" ∷ codes "a: 2 prices rounded\n" ∷ []) ∷ [] }
 {}
 
 /// A text in which one price is finer than a millionth. If that is rounded, a file is given, and one price was rounded, not

@@ -1,9 +1,22 @@
--- What `cats round` reports of a price whose value changed.
+-- What `cats round` reports of a price whose value changed, and of what was mended.
 use Rattle.std.specs.Prelude.{ℕ, List, ◌++◌, codes, decimal}
 use Rattle.cats_text.specs.Layout.{price_text}
 use Rattle.rounding.specs.Texts.{PlainRoundedPrice}
+use Rattle.rounding.specs.declared.layout.Mend.{Mend}
+use Rattle.rounding.specs.declared.layout.Mend.TheVariants.{Dummy, Keyword, Comment, Remark}
+use Rattle.rounding.specs.declared.layout.MendedLine.{MendedLine}
 
 -- the line on a price whose value changed
 abbrev pub rounded_line : PlainRoundedPrice → List ℕ
 rounded_line change = codes "line " ++ decimal change.line ++ codes ": " ++ change.word ++ codes " rounded to "
     ++ price_text change.price ++ codes "\n"
+
+abbrev pub mend_words : Mend → List ℕ
+mend_words Dummy = codes "dummy 0 put in"
+mend_words Keyword = codes "keyword respelled"
+mend_words Comment = codes "comment with % for #"
+mend_words Remark = codes "remark behind # cut"
+
+-- the line on what was mended
+abbrev pub mend_line : MendedLine → List ℕ
+mend_line mended = codes "line " ++ decimal mended.line ++ codes ": " ++ mend_words mended.mend ++ codes "\n"

@@ -1,13 +1,14 @@
-//! `cats round`: the line of a price that it changed.
+//! `cats round`: the lines of what it changed.
 
-ghost use Rattle.std.specs.Prelude.{codes};
-ghost use Rattle.std.specs.Prelude.{◌≡◌};
+ghost use Rattle.std.specs.Prelude.{◌≡◌, ◌∷◌, [], codes, map};
 ghost use Rattle.rounding.specs.Views.{plain_change};
 ghost use Rattle.commands.specs.Pieces.{text_of_pieces};
-ghost use Rattle.commands.specs.Round.{rounded_line};
+ghost use Rattle.commands.specs.Round.{mend_line, mend_words, rounded_line};
+ghost use Rattle.rounding.specs.declared.layout.Mend.TheVariants.{Dummy, Keyword, Comment, Remark};
 
 use crate::printed::pieces::Piece;
 use requests::help::CommandHelp;
+use rounding::layout::{Mend, MendedLine};
 use rounding::text::RoundedPrice;
 
 /// What `--help` prints of it.
@@ -25,10 +26,16 @@ power of ten, from 1 to 1000000000000",
 Prints the text of a bid file in which each price that is a decimal, such as
 1.02345e+06, .5 or 0.0123456, is written so that it is read: rounded to the
 nearest millionth, and halfway between two to the even one. A valid price and
-every other byte stay as they are. For example:
+every other byte stay as they are, but for layouts of other publishers:
+  a line 'dummy 0' is put in if the line 'dummy' is missing
+  goods, bids and dummy are written in lower case, and without a colon
+  a comment that begins with # begins with %
+  a remark behind the # that ends a bid is cut
+For example:
   $ cats round examples/six_digits.cats
 
-Each price whose value changed is one line on standard error:
+Each price whose value changed, and what was mended, is one line on standard
+error, with the number of its line in the output:
   line 8: 0.0123456 rounded to 0.012346
 If there is no such line, each price has the value that it had. With --exact, a
 price that would be rounded is refused as TooFine, and nothing is printed.
@@ -38,9 +45,9 @@ of a few millionths become numbers that stay as they are. Revenues are N times
 as large then, and auctions that are compared need the same N:
   $ cats round --times 100000 examples/six_digits.cats
 
-The output is always a bid file. If the text with its prices rounded is not
+The output is always a bid file. If the text, mended and rounded, is not
 one, its first fault is reported as by 'cats check', and nothing is printed.
-Other commands round prices before they read a file, if --round is given:
+Other commands mend and round a file before they read it, if --round is given:
   $ cats normalise --round auction.txt
 
 Statuses: 0, whether or not a price was rounded; 2 if the text with its prices
@@ -62,6 +69,39 @@ pub fn price_pieces(price: &RoundedPrice) -> [Piece<'_>; 7]
         Piece::Text(b"\n"),
     ]
 }
+
+/// The line of what was mended, in pieces.
+pub fn mend_pieces(mended: MendedLine) -> [Piece<'static>; 5]
+    ensures { text_of_pieces result ≡ mend_line mended }
+{
+    [
+        Piece::Text(b"line "),
+        Piece::Number(mended.line),
+        Piece::Text(b": "),
+        Piece::Text(mend_words(mended.mend).as_bytes()),
+        Piece::Text(b"\n"),
+    ]
+}
+
+/// What was mended, behind the number of the line.
+fn mend_words(mend: Mend) -> &'static str
+    ensures { result.now ≡ mend_words mend }
+{
+    match mend {
+        Mend::Dummy => "dummy 0 put in",
+        Mend::Keyword => "keyword respelled",
+        Mend::Comment => "comment with % for #",
+        Mend::Remark => "remark behind # cut",
+    }
+}
+
+/// The lines of what was mended.
+pub fn mend_lines()
+    ensures { map mend_line (record { line = 1; mend = Keyword } ∷ record { line = 2; mend = Comment }
+        ∷ record { line = 3; mend = Dummy } ∷ record { line = 12; mend = Remark } ∷ [])
+        ≡ codes "line 1: keyword respelled\n" ∷ codes "line 2: comment with % for #\n"
+        ∷ codes "line 3: dummy 0 put in\n" ∷ codes "line 12: remark behind # cut\n" ∷ [] }
+{}
 
 /// The line of a price whose value changed.
 pub fn rounded_lines()

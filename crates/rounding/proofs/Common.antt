@@ -21,7 +21,8 @@ pub use Rattle.rounding.specs.Nearest.{nearest, IsNearest}
 pub use Rattle.rounding.specs.Replacements.{replacement_of, replacement, rounded_word, replacement_text, is_kept}
 pub use Rattle.rounding.specs.Texts.{behind_blanks, leading_word, behind_word, from_second, before_second, second_word, behind_second, with_rounded}
 pub use Rattle.rounding.specs.Texts.{is_bid_line, is_significant_line, before_next, rounded_line, rounded_lines, lines_text, line_changes, lines_changes}
-pub use Rattle.rounding.specs.Texts.{rounded_text, rounded_prices, change_by, blanks, line_text, PlainRoundedPrice}
+pub use Rattle.rounding.specs.Texts.{change_by, blanks, line_text, PlainRoundedPrice}
+pub use Rattle.rounding.specs.Rounded.{rounded_text, rounded_prices}
 pub use Rattle.rounding.specs.Views.{plain_changes}
 pub use Rattle.rounding.specs.declared.digits.Rest.{Rest}
 pub use Rattle.rounding.specs.declared.digits.Rest.TheVariants.{Nothing, Zeros, BelowHalf, Half, AboveHalf}

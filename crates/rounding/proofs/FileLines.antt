@@ -1,17 +1,16 @@
 -- The words of lines, and a bid file that is rounded.
 use Rattle.rounding.proofs.Common.{rules, ◌≡◌, ℕ, zero, suc, ◌-◌, ◌<◌, ◌≤◌, true, false, ◌&&◌, eqb, leb, List, [], ◌∷◌, ◌++◌, map, filter, drop, refl, sym}
-use Rattle.rounding.proofs.Common.{ap, ◌∙◌, if◌then◌else◌, arith, ◌+◌, length, Bool, ⊎_elim, Some, None, append_assoc, subst, slice_get, cases_Bool}
-use Rattle.rounding.proofs.Common.{and_parts, eqb-true, ltb-false, both_ways, drop_all, length-drop, length-map, AllByRecursion, Word, RawLine, Line}
+use Rattle.rounding.proofs.Common.{ap, ◌∙◌, if◌then◌else◌, arith, length, ⊎_elim, Some, None, append_assoc, subst, slice_get, cases_Bool}
+use Rattle.rounding.proofs.Common.{and_parts, eqb-true, both_ways, length-map, AllByRecursion, Word, RawLine, Line}
 use Rattle.rounding.proofs.Common.{is_blank, line_byte, line_ends, blank_returns, raw_lines, with_byte, line_words, words_with, with_letter, is_significant}
-use Rattle.rounding.proofs.Common.{numbered, significant_lines, price_word, has_bid_line, Spells, SpellsPrice, SpellsBid, significant_words, is_price}
+use Rattle.rounding.proofs.Common.{numbered, significant_lines, price_word, Spells, SpellsPrice, SpellsBid, significant_words, is_price}
 use Rattle.rounding.proofs.Common.{is_too_large, is_too_fine, price_text, price_small, price_text_spells, MAX_PRICE, PlainFile, PlainBid, IsPlainFile, IsBid}
 use Rattle.rounding.proofs.Common.{replacement, behind_blanks, leading_word, behind_word, from_second, before_second, second_word, behind_second}
 use Rattle.rounding.proofs.Common.{with_rounded, is_bid_line, is_significant_line, before_next, rounded_line, rounded_lines, lines_text, line_changes}
-use Rattle.rounding.proofs.Common.{lines_changes, rounded_text, rounded_prices, change_by, behind_line, common_steps, PriceRule, Replacement, Itself}
+use Rattle.rounding.proofs.Common.{lines_changes, change_by, common_steps, PriceRule, Replacement, Itself}
 use Rattle.rounding.proofs.Common.{TooLarge, Exact, replacement_text, PlainRoundedPrice, is_kept, ltb, codes, ◌*◌, ◌^◌, cases_lt, leb-true}
 use Rattle.rounding.proofs.Exactness.{kept_itself}
 use Rattle.rounding.proofs.PriceValues.{price_replaced}
-use Rattle.rounding.proofs.TextLines.{first_of_lines, first_raw}
 use Rattle.rounding.proofs.Spans.{word_both}
 use Rattle.rounding.proofs.Words.{byte_stays, second_both}
 
@@ -26,7 +25,7 @@ split_first [] = []
 split_first (b ∷ bs) = leading_word (b ∷ bs) ∷ line_of (behind_word (b ∷ bs))
 
 -- one byte before words
-blank_skips : (x : ℕ) (bs : List ℕ) (ws : List Word) → is_blank x ≡ true → words_with x bs ws ≡ ws
+pub blank_skips : (x : ℕ) (bs : List ℕ) (ws : List Word) → is_blank x ≡ true → words_with x bs ws ≡ ws
 blank_skips x bs ws e = rw e refl
 
 letter_last : (x : ℕ) → is_blank x ≡ false → words_with x [] [] ≡ (x ∷ []) ∷ []
@@ -38,19 +37,19 @@ letter_alone x c cs ws e f = rw e (rw f refl)
 letter_joins : (x c : ℕ) (cs : List ℕ) (ws : List Word) → is_blank x ≡ false → is_blank c ≡ false → words_with x (c ∷ cs) ws ≡ with_letter x ws
 letter_joins x c cs ws e f = rw e (rw f refl)
 
-leading_letter : (b : ℕ) (xs : List ℕ) → is_blank (line_byte b xs) ≡ false → leading_word (b ∷ xs) ≡ b ∷ leading_word xs
+pub leading_letter : (b : ℕ) (xs : List ℕ) → is_blank (line_byte b xs) ≡ false → leading_word (b ∷ xs) ≡ b ∷ leading_word xs
 leading_letter b xs e = rw e refl
 
-behind_letter : (b : ℕ) (xs : List ℕ) → is_blank (line_byte b xs) ≡ false → behind_word (b ∷ xs) ≡ behind_word xs
+pub behind_letter : (b : ℕ) (xs : List ℕ) → is_blank (line_byte b xs) ≡ false → behind_word (b ∷ xs) ≡ behind_word xs
 behind_letter b xs e = rw e refl
 
 leading_blank : (c : ℕ) (cs : List ℕ) → is_blank (line_byte c cs) ≡ true → leading_word (c ∷ cs) ≡ []
 leading_blank c cs e = rw e refl
 
-behind_blank : (c : ℕ) (cs : List ℕ) → is_blank (line_byte c cs) ≡ true → behind_word (c ∷ cs) ≡ c ∷ cs
+pub behind_blank : (c : ℕ) (cs : List ℕ) → is_blank (line_byte c cs) ≡ true → behind_word (c ∷ cs) ≡ c ∷ cs
 behind_blank c cs e = rw e refl
 
-letter_stays : (b : ℕ) (bs : List ℕ) → is_blank (line_byte b bs) ≡ false → behind_blanks (b ∷ bs) ≡ b ∷ bs
+pub letter_stays : (b : ℕ) (bs : List ℕ) → is_blank (line_byte b bs) ≡ false → behind_blanks (b ∷ bs) ≡ b ∷ bs
 letter_stays b bs e = rw e refl
 
 blank_passed : (b : ℕ) (bs : List ℕ) → is_blank (line_byte b bs) ≡ true → behind_blanks (b ∷ bs) ≡ behind_blanks bs
@@ -59,7 +58,7 @@ blank_passed b bs e = rw e refl
 split_letter : (b : ℕ) (xs : List ℕ) → is_blank (line_byte b xs) ≡ false → (b ∷ leading_word xs) ∷ line_of (behind_word xs) ≡ split_first (b ∷ xs)
 split_letter b xs e = grind (arith, common_steps, behind_letter, leading_letter)
 
-first_word : (b : ℕ) (bs : List ℕ) → is_blank (line_byte b bs) ≡ false → line_of (b ∷ bs) ≡ split_first (b ∷ bs)
+pub first_word : (b : ℕ) (bs : List ℕ) → is_blank (line_byte b bs) ≡ false → line_of (b ∷ bs) ≡ split_first (b ∷ bs)
 first_word b [] e = letter_last (line_byte b []) e ∙ ap (λ x. (x ∷ []) ∷ []) (byte_stays b [] e) ∙ split_letter b [] e
 first_word b (c ∷ cs) e = ⊎_elim (search (rules, letter_alone, byte_stays, leading_blank, behind_blank, split_letter))
     (λ (f : is_blank (line_byte c cs) ≡ false). letter_joins (line_byte b (c ∷ cs)) (line_byte c cs) (blank_returns cs) (line_of (c ∷ cs)) e f
@@ -71,11 +70,11 @@ pub words_split : (l : List ℕ) → line_of l ≡ split_first (behind_blanks l)
 words_split [] = refl
 words_split (b ∷ bs) = grind (arith, common_steps, blank_passed, blank_skips, first_word, letter_stays, (words_split bs))
 
-heads : (x : List ℕ) (n : Word) (ws : List Word) → split_first x ≡ n ∷ ws → line_of (behind_word x) ≡ ws
+pub heads : (x : List ℕ) (n : Word) (ws : List Word) → split_first x ≡ n ∷ ws → line_of (behind_word x) ≡ ws
 heads [] n ws e = absurd (cc)
 heads (b ∷ bs) n ws e = cc
 
-head_word : (x : List ℕ) (n : Word) (ws : List Word) → split_first x ≡ n ∷ ws → leading_word x ≡ n
+pub head_word : (x : List ℕ) (n : Word) (ws : List Word) → split_first x ≡ n ∷ ws → leading_word x ≡ n
 head_word [] n ws e = absurd (cc)
 head_word (b ∷ bs) n ws e = cc
 
@@ -150,7 +149,7 @@ EachSecond Holds before [] = Unit {0}
 EachSecond Holds before (l ∷ ls) = (is_bid_line before l ≡ true → Holds (second_word l.bytes)) × EachSecond Holds (before_next before l) ls
 
 -- the word is not replaced
-abbrev Stays : PriceRule → Word → Type 0
+abbrev pub Stays : PriceRule → Word → Type 0
 Stays rule w = replacement rule w ≡ Itself
 
 pub bytes_stay : (rule : PriceRule) (l : List ℕ) → Stays rule (second_word l) → with_rounded rule l ≡ l
@@ -282,9 +281,10 @@ second_valid ws n p rest e h =
 price_stays : (rule : PriceRule) → rule.tens ≡ 0 → (p : Word) → IsPriceOf p → Stays rule p
 price_stays rule none p h = let faultless : price_word p ≡ None = price_faultless p h in rw none (rw faultless refl)
 
-pub file_stays : (rule : PriceRule) (text : List ℕ) (f : PlainFile) → rule.tens ≡ 0 → Spells text f → rounded_text rule text ≡ text
-file_stays rule text f none s = ap lines_text (lines_stay rule 0 (raw_lines text)
-    (each_with IsPriceOf (Stays rule) (price_stays rule none) 0 (raw_lines text) (each_price text f s))) ∙ text_of_lines text
+pub file_lines_stay : (rule : PriceRule) (text : List ℕ) (f : PlainFile) → rule.tens ≡ 0 → Spells text f
+    → rounded_lines rule 0 (raw_lines text) ≡ raw_lines text
+file_lines_stay rule text f none s = lines_stay rule 0 (raw_lines text)
+    (each_with IsPriceOf (Stays rule) (price_stays rule none) 0 (raw_lines text) (each_price text f s))
 
 -- a price is whole millionths, and so is a power of ten times it
 price_unrounded : (rule : PriceRule) (p : Word) → IsPriceOf p → Unrounded rule p
@@ -296,41 +296,13 @@ price_unrounded rule p h number = ⊎_elim
     whole_unrounded : (number : ℕ) (p : Word) (m : ℕ) → change_by number p (if ltb MAX_PRICE m then TooLarge else Exact m) ≡ []
     whole_unrounded number p m = elim (ltb MAX_PRICE m) as (λ v. change_by number p (if v then TooLarge else Exact m) ≡ []) [ true ↦ refl | false ↦ refl ]
 
-pub file_unchanged : (rule : PriceRule) (text : List ℕ) (f : PlainFile) → Spells text f → rounded_prices rule text ≡ []
-file_unchanged rule text f s = lines_unchanged rule 1 0 (raw_lines text)
+pub file_lines_unchanged : (rule : PriceRule) (text : List ℕ) (f : PlainFile) → Spells text f → lines_changes rule 1 0 (raw_lines text) ≡ []
+file_lines_unchanged rule text f s = lines_unchanged rule 1 0 (raw_lines text)
     (each_with IsPriceOf (Unrounded rule) (price_unrounded rule) 0 (raw_lines text) (each_price text f s))
 
--- ---- a text in which no bid line has begun
-
 -- how many significant lines a text has
-count_words : (text : List ℕ) → length (words_from (raw_lines text)) ≡ length (significant_lines text)
+pub count_words : (text : List ℕ) → length (words_from (raw_lines text)) ≡ length (significant_lines text)
 count_words text = ap (λ (ws : List (List Word)). length ws) (sym (significant_from text)) ∙ length-map (significant_lines text) (λ (l : Line). l.words)
-
-no_second : (Holds : Word → Type 0) (text : List ℕ) → has_bid_line text ≡ false → EachSecond Holds 0 (raw_lines text)
-no_second Holds text none = grind (arith, common_steps, count_words, drop_all, ltb-false, each_from)
-
-pub header_stays : (rule : PriceRule) (text : List ℕ) → has_bid_line text ≡ false → rounded_text rule text ≡ text
-header_stays rule text none = ap lines_text (lines_stay rule 0 (raw_lines text) (no_second (Stays rule) text none)) ∙ text_of_lines text
-
-pub header_unchanged : (rule : PriceRule) (text : List ℕ) → has_bid_line text ≡ false → rounded_prices rule text ≡ []
-header_unchanged rule text none = lines_unchanged rule 1 0 (raw_lines text) (no_second (Unrounded rule) text none)
-
--- so many of a text's significant lines are before a place
-abbrev pub IsCounted : List ℕ → ℕ → ℕ → Type 0
-IsCounted text start count = count + length (words_from (raw_lines (drop start text))) ≡ length (significant_lines text)
-
-count_first : (l : RawLine) (ls : List RawLine) (significant : Bool) (more : ℕ) → significant ≡ is_significant_line l
-    → more ≡ (if significant then 1 else 0) → length (words_from (l ∷ ls)) ≡ more + length (words_from ls)
-count_first l ls true more es em = ap (λ (ws : List (List Word)). length ws) (words_more l ls (sym es)) ∙ omega (arith, em)
-count_first l ls false more es em = ap (λ (ws : List (List Word)). length ws) (words_same l ls (sym es)) ∙ omega (arith, em)
-
-pub none_counted : (text : List ℕ) → IsCounted text 0 0
-none_counted text = omega (arith, count_words text)
-
-pub line_counted : (text : List ℕ) (start next count more : ℕ) (significant : Bool) → start < length text
-    → drop next text ≡ behind_line (drop start text) → significant ≡ is_significant_line (first_raw (drop start text))
-    → more ≡ (if significant then 1 else 0) → IsCounted text start count → IsCounted text next (count + more)
-line_counted text start next count more significant l en es em before = grind (arith, common_steps, count_first, first_of_lines, first_raw, length-drop)
 
 -- ---- prices that are written
 

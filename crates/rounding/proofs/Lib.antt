@@ -9,5 +9,6 @@ pub mod Exactness
 pub mod PriceValues
 pub mod FileLines
 pub mod RoundedWords
+pub mod Layouts
 pub mod RoundedFiles
 pub mod Headers

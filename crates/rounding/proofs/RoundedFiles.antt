@@ -17,6 +17,8 @@ use Rattle.cats_text.proofs.Writing.TextLines.{IsWord, IsLetter}
 use Rattle.rounding.proofs.Exactness.{kept_itself}
 use Rattle.rounding.proofs.FileLines.{line_parts, significant_from, words_from, bytes_stay, written_spells, spelled_price, found_price, second_valid}
 use Rattle.rounding.proofs.PriceValues.{price_replaced}
+use Rattle.rounding.proofs.Layouts.{file_unmended}
+use Rattle.rounding.specs.Layouts.{lines_read}
 use Rattle.rounding.proofs.RoundedWords.{stays_or_word, lines_words}
 
 -- ---- lines as a text has them
@@ -107,8 +109,10 @@ rounded_are_lines rule before (l ∷ ls) h = (
   rounded_are_lines rule (before_next before l) ls h.2,
 )
 
-pub rounded_words_are : (rule : PriceRule) (text : List ℕ) → significant_words (rounded_text rule text) ≡ rounded_lines_words rule (significant_words text)
-rounded_words_are rule text = significant_from (rounded_text rule text)
+pub rounded_words_are : (rule : PriceRule) (text : List ℕ) → lines_read text ≡ raw_lines text
+    → significant_words (rounded_text rule text) ≡ rounded_lines_words rule (significant_words text)
+rounded_words_are rule text same = significant_from (rounded_text rule text)
+    ∙ ap (λ (ls : List RawLine). words_from (raw_lines (lines_text (rounded_lines rule 0 ls)))) same
     ∙ ap words_from (lines_of_text (rounded_lines rule 0 (raw_lines text)) (rounded_are_lines rule 0 (raw_lines text) (raw_are_lines text)))
     ∙ lines_words rule 0 (raw_lines text) ∙ ap (rounded_lines_words rule) (sym (significant_from text))
 
@@ -187,7 +191,7 @@ module _ (rule : PriceRule) (f : PlainFile) where
   module _ (text : List ℕ) (s : Spells text f) where
     lines_are : significant_words (rounded_text rule text) ≡ (codes "goods" ∷ s.goods ∷ []) ∷ (codes "bids" ∷ s.bids ∷ [])
         ∷ (codes "dummy" ∷ s.dummy ∷ []) ∷ map (rounded_line_words rule) s.bid_lines
-    lines_are = rounded_words_are rule text ∙ ap (rounded_lines_words rule) s.lines_are
+    lines_are = rounded_words_are rule text (file_unmended text f s) ∙ ap (rounded_lines_words rule) s.lines_are
 
     same_count : length f.bids ≡ length times.bids
     same_count = sym (length-map f.bids (times_bid (10 ^ rule.tens)))

@@ -35,16 +35,16 @@ word_byte b bs z e = byte_same b (leading_word bs ++ z) bs (word_end bs z e)
 -- ---- other bytes behind a run
 
 -- whether a word begins at the start, or nothing is there
-abbrev begins_here : List ℕ → Bool
+abbrev pub begins_here : List ℕ → Bool
 begins_here [] = true
 begins_here (b ∷ bs) = not (is_blank (line_byte b bs))
 
 -- whether no byte at the start is of a word
-abbrev ends_here : List ℕ → Bool
+abbrev pub ends_here : List ℕ → Bool
 ends_here [] = true
 ends_here (b ∷ bs) = is_blank (line_byte b bs)
 
-behind_blanks_begins : (l : List ℕ) → begins_here (behind_blanks l) ≡ true
+pub behind_blanks_begins : (l : List ℕ) → begins_here (behind_blanks l) ≡ true
 behind_blanks_begins [] = refl
 behind_blanks_begins (b ∷ bs) = grind (arith, common_steps, (behind_blanks_begins bs))
 
@@ -56,7 +56,7 @@ begun : (z : List ℕ) → begins_here z ≡ true → behind_blanks z ≡ z
 begun [] w = refl
 begun (b ∷ bs) w = grind (arith, common_steps)
 
-ended : (z : List ℕ) → ends_here z ≡ true → (leading_word z ≡ []) × (behind_word z ≡ z)
+pub ended : (z : List ℕ) → ends_here z ≡ true → (leading_word z ≡ []) × (behind_word z ≡ z)
 ended [] w = (refl, refl)
 ended (b ∷ bs) w = grind (arith, common_steps)
 

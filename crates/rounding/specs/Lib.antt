@@ -3,6 +3,8 @@ pub mod Decimals
 pub mod Nearest
 pub mod Replacements
 pub mod Texts
+pub mod Layouts
+pub mod Rounded
 pub mod Multiplied
 pub mod Views
 pub mod Answers

@@ -1,7 +1,7 @@
--- A text with its prices rounded, line by line. Only the second words of bid lines may be other words.
+-- Lines with their prices rounded. Only the second words of bid lines may be other words.
 use Rattle.std.specs.Prelude.{ℕ, suc, nat_le, Bool, ◌&&◌, if◌then◌else◌, List, [], ◌∷◌, ◌++◌}
 use Rattle.std.specs.List.{flat_map}
-use Rattle.cats_text.specs.Lines.{Word, RawLine, is_blank, line_byte, blank_returns, raw_lines, line_words}
+use Rattle.cats_text.specs.Lines.{Word, RawLine, is_blank, line_byte, blank_returns, line_words}
 use Rattle.cats_text.specs.Lines.{is_significant}
 use Rattle.rounding.specs.Replacements.{replacement, rounded_word}
 use Rattle.rounding.specs.declared.replacement.PriceRule.{PriceRule}
@@ -79,10 +79,6 @@ line_text l = l.bytes ++ (if l.ended then 10 ∷ [] else [])
 abbrev pub lines_text : List RawLine → List ℕ
 lines_text ls = flat_map line_text ls
 
--- the text with the second word of each bid line replaced
-abbrev pub rounded_text : PriceRule → List ℕ → List ℕ
-rounded_text rule text = lines_text (rounded_lines rule 0 (raw_lines text))
-
 -- ---- rounded prices
 
 -- a price whose value is another one: its line, counted from 1, the word, and its new value in millionths
@@ -107,7 +103,3 @@ abbrev pub lines_changes : PriceRule → ℕ → ℕ → List RawLine → List P
 lines_changes rule number before [] = []
 lines_changes rule number before (l ∷ ls) =
     line_changes rule number before l ++ lines_changes rule (suc number) (before_next before l) ls
-
--- line, word and new price of each price whose value changed
-abbrev pub rounded_prices : PriceRule → List ℕ → List PlainRoundedPrice
-rounded_prices rule text = lines_changes rule 1 0 (raw_lines text)

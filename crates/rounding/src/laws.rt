@@ -8,9 +8,11 @@ ghost use Rattle.cats_text.specs.Grammar.{Spells, SpellsPrice};
 ghost use Rattle.cats_text.specs.Layout.{price_text};
 ghost use Rattle.cats_text.specs.Lines.{Word, line_words, blank_returns};
 ghost use Rattle.rounding.specs.Decimals.{is_decimal, top, bottom, exact_top, exact_bottom};
+ghost use Rattle.rounding.specs.Layouts.{mended_places};
 ghost use Rattle.rounding.specs.Nearest.{IsNearest, nearest};
 ghost use Rattle.rounding.specs.Replacements.{replacement, replacement_of};
-ghost use Rattle.rounding.specs.Texts.{before_second, second_word, behind_second, rounded_text, rounded_prices};
+ghost use Rattle.rounding.specs.Rounded.{rounded_text, rounded_prices};
+ghost use Rattle.rounding.specs.Texts.{before_second, second_word, behind_second};
 ghost use Rattle.rounding.specs.Multiplied.{rounded_lines_words, text_words, times_file};
 ghost use Rattle.rounding.specs.declared.replacement.FinePrices.{FinePrices};
 ghost use Rattle.rounding.specs.declared.replacement.PriceRule.{PriceRule};
@@ -54,11 +56,12 @@ pub fn second_words()
         → line_words (blank_returns line) ≡ first ∷ second ∷ rest → second_word line ≡ second }
 {}
 
-/// A bid file stays as it is if prices are not multiplied, and no price of it is ever rounded.
+/// A bid file stays as it is if prices are not multiplied; no price of it is ever rounded, and nothing is mended.
 pub fn bid_files_stay()
     ensures text { (rule : PriceRule) (text : List ℕ) (f : PlainFile) → rule.tens ≡ 0 → Spells text f
         → rounded_text rule text ≡ text }
     ensures prices { (rule : PriceRule) (text : List ℕ) (f : PlainFile) → Spells text f → rounded_prices rule text ≡ [] }
+    ensures mends { (text : List ℕ) (f : PlainFile) → Spells text f → mended_places text ≡ [] }
 {}
 
 /// A bid file that was rounded stays as it is when it is rounded once more.
@@ -67,9 +70,9 @@ pub fn rounded_once()
         → rounded_text again (rounded_text rule text) ≡ rounded_text rule text }
 {}
 
-/// The words of a text's significant lines stay, but for the prices.
+/// The words of a text's significant lines stay, but for the prices, if nothing is mended.
 pub fn other_words_stay()
-    ensures { (rule : PriceRule) (text : List ℕ) → text_words (rounded_text rule text)
+    ensures { (rule : PriceRule) (text : List ℕ) → mended_places text ≡ [] → text_words (rounded_text rule text)
         ≡ rounded_lines_words rule (text_words text) }
 {}
 

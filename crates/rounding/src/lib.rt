@@ -5,6 +5,7 @@
 mod decimal;
 mod digits;
 pub mod laws;
+pub mod layout;
 mod line;
 pub mod replacement;
 pub mod text;

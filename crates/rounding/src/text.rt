@@ -1,4 +1,4 @@
-//! `round`: a text with its prices rounded.
+//! `round`: a text, mended, with its prices rounded.
 
 ghost use Rattle.std.specs.Prelude.{
   ◌≡◌,
@@ -6,21 +6,28 @@ ghost use Rattle.std.specs.Prelude.{
   ◌∷◌,
   [],
   ◌≤◌,
-  ◌&&◌,
-  nat_le,
+  ◌<◌,
+  ◌+◌,
+  ◌-◌,
+  ◌*◌,
+  ◌^◌,
   if◌then◌else◌,
   IfOk,
   OnOk,
   length,
   false,
 };
-ghost use Rattle.cats_text.specs.Faults.{has_bid_line};
 ghost use Rattle.rounding.specs.Answers.{RoundAnswer};
-ghost use Rattle.rounding.specs.Texts.{with_rounded, second_word, rounded_text, rounded_prices, change_by};
+ghost use Rattle.rounding.specs.Layouts.{is_rewritten, mend_of, mended_at, mended_bytes, mended_places, put_in, put_in_at};
+ghost use Rattle.rounding.specs.Rounded.{rounded_text, rounded_prices};
+ghost use Rattle.rounding.specs.Texts.{with_rounded, second_word, change_by, lines_text};
 ghost use Rattle.rounding.specs.Replacements.{replacement, replacement_text};
 ghost use Rattle.rounding.specs.Views.{plain_changes};
 ghost use Rattle.rounding.specs.Internal.RawTexts.{first_line};
 
+use crate::layout::{
+    Mend, MendedLine, is_bid_line, is_rewritten_line, lacks_dummy, mend_of, mended,
+};
 use crate::line::{is_significant, second_start, split_word};
 use crate::replacement::{PriceRule, Replacement, replacement_of};
 use cats_text::packed::check;
@@ -36,15 +43,20 @@ pub struct RoundedPrice {
     pub price: u64,
 }
 
-/// A text with its prices rounded, and which prices have another value now, in order.
+/// A text that is mended, with its prices rounded; which prices have another value now, and what was mended, in order.
 #[derive(Debug, Drop)]
 pub struct RoundedText {
     pub text: Vec<u8>,
     pub prices: Vec<RoundedPrice>,
+    pub mends: Vec<MendedLine>,
 }
 
-/// Significant lines before the first bid line.
-const HEADER_LINES: usize = 3;
+/// A line's number in the rounded text, counted from 1, and how many significant lines are before it.
+#[derive(Clone, Copy)]
+struct LinePosition {
+    number: u64,
+    before: usize,
+}
 
 /// Appends what is written in place of a word.
 fn push_replacement(
@@ -66,6 +78,50 @@ fn push_replacement(
 }
 
 impl RoundedText {
+    /// Puts in the line `dummy 0` if it is missing before a line. It answers where the line is then.
+    fn put_in(&mut self, line: &[u8], at: LinePosition) -> Result<LinePosition, AllocError>
+        requires number { at.number < 2 ^ 64 - 1 }
+        requires before { at.before < 2 ^ 64 - 1 }
+        ensures text { IfOk result (λ _. self.new.text.items ≡ self.old.text.items
+            ++ lines_text (put_in at.before line.now)) }
+        ensures mends { IfOk result (λ _. self.new.mends.items ≡ self.old.mends.items
+            ++ put_in_at at.number at.before line.now) }
+        ensures prices { self.new.prices ≡ self.old.prices }
+        ensures number { IfOk result (λ p. p.number ≡ at.number + length (put_in at.before line.now)) }
+        ensures before { IfOk result (λ p. p.before ≡ at.before + length (put_in at.before line.now)) }
+    {
+        if !lacks_dummy(line, at.before) {
+            return Ok(at);
+        }
+        self.text.extend_from_slice(b"dummy 0\n")?;
+        self.mends.push(MendedLine {
+            line: at.number,
+            mend: Mend::Dummy,
+        })?;
+        Ok(LinePosition {
+            number: at.number + 1,
+            before: at.before + 1,
+        })
+    }
+
+    /// The line as it is read. It notes what was mended.
+    fn mend(&mut self, alloc: Global, line: &[u8], at: LinePosition) -> Result<Vec<u8>, AllocError>
+        ensures line { IfOk result (λ m. m.items ≡ mended_bytes at.before line.now) }
+        ensures mends { IfOk result (λ _. self.new.mends.items ≡ self.old.mends.items
+            ++ mended_at at.number (mend_of at.before line.now)) }
+        ensures text { self.new.text ≡ self.old.text }
+        ensures prices { self.new.prices ≡ self.old.prices }
+    {
+        let mend = mend_of(line, at.before);
+        if let Some(mend) = mend {
+            self.mends.push(MendedLine {
+                line: at.number,
+                mend,
+            })?;
+        }
+        mended(alloc, line, mend, at.before)
+    }
+
     /// Appends a bid line with its price rounded.
     fn push_bid_line(
         &mut self,
@@ -77,6 +133,7 @@ impl RoundedText {
         ensures text { OnOk result (self.new.text.items ≡ self.old.text.items ++ with_rounded rule line.now) }
         ensures prices { OnOk result (plain_changes self.new.prices.items ≡ plain_changes self.old.prices.items
             ++ change_by number (second_word line.now) (replacement rule (second_word line.now))) }
+        ensures mends { self.new.mends ≡ self.old.mends }
     {
         let start = second_start(line);
         let (word, behind) = split_word(&line[start..]);
@@ -109,6 +166,7 @@ impl RoundedText {
             ++ (if is_bid then with_rounded rule line.now else line.now)) }
         ensures prices { OnOk result (plain_changes self.new.prices.items ≡ plain_changes self.old.prices.items
             ++ (if is_bid then change_by number (second_word line.now) (replacement rule (second_word line.now)) else [])) }
+        ensures mends { self.new.mends ≡ self.old.mends }
     {
         if is_bid {
             self.push_bid_line(alloc, line, number, rule)
@@ -116,13 +174,6 @@ impl RoundedText {
             self.text.extend_from_slice(line)
         }
     }
-}
-
-/// Whether a line is a bid line: it is significant, and so are three lines or more before it.
-fn is_bid_line(before: usize, significant: bool) -> bool
-    ensures { result ≡ (nat_le 3 before && significant) }
-{
-    before >= HEADER_LINES && significant
 }
 
 /// Appends the LF of a line that has one.
@@ -148,49 +199,62 @@ fn line_length(text: &[u8]) -> usize
     text.len()
 }
 
-/// The text with its prices rounded, whether or not it is a bid file then.
+/// The text, mended, with its prices rounded, whether or not it is a bid file then.
 pub fn round_prices(alloc: Global, text: &[u8], rule: PriceRule) -> Result<RoundedText, AllocError>
     ensures text { IfOk result (λ r. r.text.items ≡ rounded_text rule text.now) }
     ensures prices { IfOk result (λ r. plain_changes r.prices.items ≡ rounded_prices rule text.now) }
+    ensures mends { IfOk result (λ r. r.mends.items ≡ mended_places text.now) }
 {
     let mut rounded = RoundedText {
         text: Vec::new(alloc),
         prices: Vec::new(alloc),
+        mends: Vec::new(alloc),
     };
     let mut start = 0;
-    let mut number = 1;
-    let mut before = 0;
+    let mut at = LinePosition {
+        number: 1,
+        before: 0,
+    };
     while start < text.len() {
         let end = start + line_length(&text[start..]);
         let line = &text[start..end];
-        let significant = is_significant(line);
-        let is_bid = is_bid_line(before, significant);
-        rounded.push_line(alloc, line, is_bid, number, rule)?;
+        let position = rounded.put_in(line, at)?;
+        let mended = rounded.mend(alloc, line, position)?;
+        let read = mended.as_slice();
+        let significant = is_significant(read);
+        let is_bid = is_bid_line(read, position.before);
+        rounded.push_line(alloc, read, is_bid, position.number, rule)?;
         push_end(&mut rounded.text, end < text.len())?;
         start = text.len().min(end + 1);
-        number += 1;
-        before += usize::from(significant);
+        at = LinePosition {
+            number: position.number + 1,
+            before: position.before + usize::from(significant),
+        };
     }
     Ok(rounded)
 }
 
-/// Whether a bid line has begun in a text: a fourth significant line.
-fn has_bid_line(text: &[u8]) -> bool
-    ensures { result ≡ has_bid_line text.now }
+/// Whether a bid line has begun in a text, or a line is mended.
+fn is_rewritten(text: &[u8]) -> bool
+    ensures { result ≡ is_rewritten text.now }
 {
     let mut start = 0;
-    let mut count = 0;
-    while start < text.len() && count <= HEADER_LINES {
+    let mut before = 0;
+    while start < text.len() {
         let end = start + line_length(&text[start..]);
-        count += usize::from(is_significant(&text[start..end]));
+        let line = &text[start..end];
+        if is_rewritten_line(line, before) {
+            return true;
+        }
         start = text.len().min(end + 1);
+        before += usize::from(is_significant(line));
     }
-    count > HEADER_LINES
+    false
 }
 
-/// Judges a text in which no bid line has begun. No byte of it changes, so its fault needs no memory.
+/// Judges a text that stays as it is. So its fault needs no memory.
 fn round_header(alloc: Global, text: &[u8], rule: PriceRule) -> Result<RoundedText, ReadFault>
-    requires { has_bid_line text.now ≡ false }
+    requires { is_rewritten text.now ≡ false }
     ensures { RoundAnswer rule text.now result }
 {
     check(alloc, text)?;
@@ -198,17 +262,18 @@ fn round_header(alloc: Global, text: &[u8], rule: PriceRule) -> Result<RoundedTe
         Ok(text) => Ok(RoundedText {
             text,
             prices: Vec::new(alloc),
+            mends: Vec::new(alloc),
         }),
         Err(AllocError) => Err(ReadFault::whole(Kind::Memory)),
     }
 }
 
-/// Rounds the prices of a text, and judges whether what it gives is a bid file. No bid of it is kept. Memory is refused
-/// only if a bid line has begun, or if the rounded text is a bid file.
+/// Mends a text, rounds its prices, and judges whether what it gives is a bid file. No bid of it is kept. Memory is refused
+/// only if a bid line has begun, or a line is mended, or if the rounded text is a bid file.
 pub fn round(alloc: Global, text: &[u8], rule: PriceRule) -> Result<RoundedText, ReadFault>
     ensures { RoundAnswer rule text.now result }
 {
-    if !has_bid_line(text) {
+    if !is_rewritten(text) {
         return round_header(alloc, text, rule);
     }
     let Ok(rounded) = round_prices(alloc, text, rule) else {

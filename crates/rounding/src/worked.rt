@@ -7,7 +7,9 @@ ghost use Rattle.cats_text.specs.declared.read_fault.Kind.TheVariants.{NotANumbe
 ghost use Rattle.rounding.specs.Decimals.{is_decimal, top, bottom};
 ghost use Rattle.rounding.specs.Nearest.{nearest};
 ghost use Rattle.rounding.specs.Replacements.{price_rule, replacement, rounded_word};
-ghost use Rattle.rounding.specs.Texts.{rounded_text, rounded_prices};
+ghost use Rattle.rounding.specs.Layouts.{mended_places};
+ghost use Rattle.rounding.specs.Rounded.{rounded_text, rounded_prices};
+ghost use Rattle.rounding.specs.declared.layout.Mend.TheVariants.{Dummy, Keyword, Comment, Remark};
 ghost use Rattle.rounding.specs.declared.replacement.FinePrices.TheVariants.{Round, Refuse};
 ghost use Rattle.rounding.specs.declared.replacement.Replacement.TheVariants.{Itself, Exact, Rounded, TooLarge, TooFine};
 
@@ -91,6 +93,20 @@ pub fn texts()
     ensures prices { rounded_prices (price_rule Round 0)
         (codes "goods 1e0\r\nbids 2\ndummy 0 1e1\n% 0 1e3\r\n\t1 \t1E-3\t0 1e2 #\r\n0 0.0123456\r")
         ≡ record { line = 6; word = codes "0.0123456"; price = 12346 } ∷ [] }
+{}
+
+/// A text in the layout of another publisher, and texts that have other faults.
+pub fn layouts()
+    ensures text { rounded_text (price_rule Round 0)
+        (codes "# two bids\nGoods: 2\r\nBIDS 2\n0 3 0 #\tnorth\n  #\n1 1e1 1 #\n")
+        ≡ codes "% two bids\ngoods 2\r\nbids 2\ndummy 0\n0 3 0 #\n  %\n1 10 1 #\n" }
+    ensures mends { mended_places (codes "# two bids\nGoods: 2\r\nBIDS 2\n0 3 0 #\tnorth\n  #\n1 1e1 1 #\n")
+        ≡ record { line = 1; mend = Comment } ∷ record { line = 2; mend = Keyword } ∷ record { line = 3; mend = Keyword }
+        ∷ record { line = 4; mend = Dummy } ∷ record { line = 5; mend = Remark } ∷ record { line = 6; mend = Comment } ∷ [] }
+    ensures kept { map mended_places (codes "goods:2\n" ∷ codes "goods :2\n" ∷ codes "goods 2 # two\n" ∷ codes "bids: 2\n"
+        ∷ codes "goods 1\nbids 0\n" ∷ codes "goods 1\nbids 1\ndummy 0\n0 5 0 # 1 6 0 #\n"
+        ∷ codes "goods 1\nbids 1\ndummy 0\n0 5 0#north\n" ∷ codes "goods 1\nbids 1\n-1 5 0 #\n" ∷ [])
+        ≡ [] ∷ [] ∷ [] ∷ [] ∷ [] ∷ [] ∷ [] ∷ [] ∷ [] }
 {}
 
 /// A text whose prices are multiplied, and the prices that are rounded then.

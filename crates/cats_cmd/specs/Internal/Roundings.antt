@@ -1,5 +1,5 @@
 -- What rounding the bytes of a file answers.
-use Rattle.std.specs.Prelude.{◌≡◌, ◌⊎◌, ℕ, List, Option, Some, None, Result, Ok, Err, Vec}
+use Rattle.std.specs.Prelude.{◌≡◌, ◌⊎◌, ℕ, List, length, Option, Some, None, Result, Ok, Err, Vec}
 use Rattle.std.specs.Global.{Global}
 use Rattle.cats_text.specs.declared.read_fault.ReadFault.{ReadFault}
 use Rattle.cats_text.specs.declared.stream.Watched.{Watched}
@@ -11,7 +11,8 @@ use Rattle.cats_text.specs.Faults.{first_fault}
 use Rattle.canon.specs.declared.canon_fault.CanonFault.{CanonFault}
 use Rattle.canon.specs.declared.canon_fault.CanonFault.TheVariants.{Read, StepLimit, Memory}
 use Rattle.rounding.specs.Answers.{IsRounded, WantsMemoryToRound}
-use Rattle.rounding.specs.Texts.{rounded_prices, rounded_text}
+use Rattle.rounding.specs.Layouts.{mended_places}
+use Rattle.rounding.specs.Rounded.{rounded_prices, rounded_text}
 use Rattle.rounding.specs.declared.replacement.PriceRule.{PriceRule}
 use Rattle.rounding.specs.declared.text.RoundedText.{RoundedText}
 
@@ -29,7 +30,7 @@ module _ {R : Type 0} (remaining : R → Option (List ℕ)) (rule : PriceRule) w
     pub bytes : List ℕ
     pub all : ReadsAll remaining old new bytes
     pub text : read.0.items ≡ rounded_text rule bytes
-    pub count : read.1 ≡ rounded_count (rounded_prices rule bytes)
+    pub count : read.1 ≡ rounded_count (rounded_prices rule bytes) (length (mended_places bytes))
 
   abbrev pub ReadsRounded : Watched R → Watched R → Result (Vec ℕ Global × RoundedCount) ReadFault → Type 0
   ReadsRounded old new (Ok read) = ReadsText old new read

@@ -36,6 +36,13 @@ static TEXTS: &[Row<'_>] = rows! {
     ("round --times=10 FILE", &[b"{1 1 0}0 100000000001 0 #\n"], 2, "", "line 4: TooLarge\n"),
     ("round --times=20 FILE", &[b"{1 1 0}0 1 0 #\n"], 64, "",
      "error: '--times <N>' is a power of ten, from 1 to 1000000000000\n\nFor more information, try '--help'.\n"),
+    // layouts of other publishers
+    ("round FILE", &[b"# two bids\nGoods: 2\r\nBIDS 2\n0 3 0 #\tnorth\n  #\n1 1e-7 1 #\n"], 0,
+     "% two bids\ngoods 2\r\nbids 2\ndummy 0\n0 3 0 #\n  %\n1 0 1 #\n",
+     "line 1: comment with % for #\nline 2: keyword respelled\nline 3: keyword respelled\nline 4: dummy 0 put in\n\
+      line 5: remark behind # cut\nline 6: comment with % for #\nline 7: 1e-7 rounded to 0\n"),
+    ("round FILE", &[b"goods 1\nbids 1\n0 5 0 # 1 6 0 #\n"], 2, "", "line 4: AfterEnd\n"),
+    ("round FILE", &[b"goods 2 # two\nbids 0\ndummy 0\n"], 2, "", "line 1: Header\n"),
 };
 
 #[test]

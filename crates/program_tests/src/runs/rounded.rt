@@ -21,6 +21,7 @@ static FILES: Files<'_> = rows! {
     ("sum", b"goods 2\nbids 3\ndummy 0\n0 3 0 #\n1 4 1 #\n2 7.0000001 0 1 #\n"),
     ("large", b"goods 1\nbids 1\ndummy 0\n0 1e13 0 #\n"),
     ("bad", b"goods 1\n"),
+    ("cass", b"Goods: 1\nbids 1\n0 1e-7 0 #\n"),
     ("a\nb", b"goods 1\nbids 1\ndummy 0\n0 1e-7 0 #\n"),
     // lists of bids
     ("bids", b"1\n0\n"),
@@ -37,6 +38,9 @@ static ROWS: &[Row<'_>] = rows! {
     ("show --round-exact exponents", 0, "goods 1\nbids 1\ndummy 0\n0\t15\t0\t#\n", ""),
     ("compare --round exponents fine", 1, "different\ngoods\nleft 1\nright 2\n", "fine: 2 prices rounded\n"),
     ("check --round a\nb", 0, "goods 1 bids 1 dummy 0\n", "a\\nb: 1 price rounded, 1 to 0\n"),
+    ("check --round cass", 0, "goods 1 bids 1 dummy 0\n", "cass: 2 lines mended\ncass: 1 price rounded, 1 to 0\n"),
+    ("compare --round cass a\nb", 0, "same\n",
+     "cass: 2 lines mended\ncass: 1 price rounded, 1 to 0\na\\nb: 1 price rounded, 1 to 0\n"),
     // with both flags the exact one holds
     ("check --round-exact fine", 2, "", "line 4: TooFine\n"),
     ("value --round --round-exact fine 0", 2, "", "line 4: TooFine\n"),

@@ -1,8 +1,6 @@
 -- `report_rounded`
-use Rattle.cats_cmd.proofs.Common.{refl, arith, ne_eqb}
+use Rattle.cats_cmd.proofs.JudgingPaths.{reports_more}
 use Rattle.cats_cmd.proofs.priced_input.report_rounded.Goals as goal
 
-pub returns-then-rounded-gt0 : goal.returns-then-rounded-gt0
-returns-then-rounded-gt0 g c =
-    let some = c.if-rounded-gt0.true in
-    rw (ne_eqb c.args.rounded.count 0 (λ none. omega (arith, some, none))) (_, c.report_rounded_count.ensures, refl)
+pub returns : goal.returns
+returns g c = reports_more g.E.Write.contents _ _ _ _ _ c.report_if_mended.ensures c.report_if_rounded.ensures

@@ -3,4 +3,4 @@ use Rattle.cats_cmd.proofs.Common.{◌≡◌, ◌≤◌, take, plain_changes, ro
 use Rattle.cats_cmd.proofs.priced_input.rounded_count.Given as goal
 
 abbrev pub invariant-loop-price : goal.invariant-loop-price
-invariant-loop-price l = (l.zeroed ≤ l.price-index) × (l.zeroed ≡ (rounded_count (plain_changes (take l.price-index l.prices))).zeroed)
+invariant-loop-price l = (l.zeroed ≤ l.price-index) × (l.zeroed ≡ (rounded_count (plain_changes (take l.price-index l.prices)) 0).zeroed)

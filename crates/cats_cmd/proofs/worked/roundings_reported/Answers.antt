@@ -10,3 +10,7 @@ returns-clause-counted c = refl
 pub returns-clause-lines : goal.returns-clause-lines
 unfolding digits encode_utf8
 returns-clause-lines c = refl
+
+pub returns-clause-mended : goal.returns-clause-mended
+unfolding digits encode_utf8
+returns-clause-mended c = refl

@@ -1,6 +1,6 @@
 -- `rounded_once`
 use Rattle.rounding.proofs.Common.{◌≡◌, ℕ, List, PlainFile, Spells, rounded_text, PriceRule}
-use Rattle.rounding.proofs.FileLines.{file_stays}
+use Rattle.rounding.proofs.Layouts.{file_stays}
 use Rattle.rounding.proofs.laws.rounded_once.Goals as goal
 
 pub returns : goal.returns

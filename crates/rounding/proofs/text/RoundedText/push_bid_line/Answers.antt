@@ -29,4 +29,5 @@ returns-in_default c = record {
       (sym (no_change c.args.number c.split_word.result.0.now c.replacement_of-replacement.result c.in_default.not-Rounded)
       ∙ bid_line_change c.args.rule c.args.line.now c.split_word.result.0.now c.second_start-start.result c.args.number
       c.replacement_of-replacement.result c.second_start-start.ensures.count c.split_word.ensures.word c.replacement_of-replacement.ensures);
+  mends = refl;
 }
