@@ -6,7 +6,6 @@ use Rattle.cats_text.specs.declared.stream.Watched.{Watched}
 use Rattle.cats_cmd.specs.Inputs.{ReadsAll, StopsReading}
 use Rattle.cats_cmd.specs.PricedInputs.{WantsMemoryToRead, rounded_count}
 use Rattle.cats_cmd.specs.declared.priced_input.RoundedCount.{RoundedCount}
-use Rattle.cats_cmd.specs.declared.priced_input.Texts.{Texts}
 use Rattle.cats_text.specs.Faults.{first_fault}
 use Rattle.canon.specs.declared.canon_fault.CanonFault.{CanonFault}
 use Rattle.canon.specs.declared.canon_fault.CanonFault.TheVariants.{Read, StepLimit, Memory}
@@ -35,17 +34,3 @@ module _ {R : Type 0} (remaining : R → Option (List ℕ)) (rule : PriceRule) w
   ReadsRounded old new (Ok read) = ReadsText old new read
   ReadsRounded old new (Err fault) =
       StopsReading remaining old new fault.line fault.kind ⊎ WantsMemoryToRead remaining old new fault
-
--- ---- all bytes, and the text that is judged
-
--- these with rounded prices, if prices are rounded
-abbrev pub rounded_or : Option (Vec ℕ Global) → List ℕ → List ℕ
-rounded_or (Some text) bytes = text.items
-rounded_or None bytes = bytes
-
-abbrev pub judged_of : Texts → List ℕ
-judged_of texts = rounded_or texts.rounded texts.bytes.items
-
-abbrev pub plain_texts : Result Texts ReadFault → Result (List ℕ × List ℕ) ReadFault
-plain_texts (Ok texts) = Ok (texts.bytes.items, judged_of texts)
-plain_texts (Err fault) = Err fault
