@@ -90,6 +90,14 @@ def check_texts(some):
         list(pool.map(lambda call: judge_text(*call), calls))
 
 
+def check_long_text():
+    """A text of 19 MB, which `cats check --round` reads a line at a time. Want of memory would be a fault of the program."""
+    bids, goods = 65_536, " ".join(map(str, range(100)))
+    text = latin(f"goods 100\nbids {bids}\ndummy 0\n" + "".join(f"{bid} 1.00000049 {goods} #\n" for bid in range(bids)))
+    wanted = Answer(0, b"goods 100 bids %d dummy 0\n" % bids, b"/dev/stdin: %d prices rounded\n" % bids)
+    judge("check --round of a long text", wanted, run(["check", "--round", "/dev/stdin"], text))
+
+
 # ---- two files
 
 def write_file(path, text):
@@ -314,6 +322,7 @@ def check_lines(folder):
 def main():
     some = texts()
     check_texts(some)
+    check_long_text()
     for check in (check_names, check_lines, check_files, lambda folder: check_pairs(folder, some)):
         with tempfile.TemporaryDirectory() as folder:
             check(os.fsencode(folder))
