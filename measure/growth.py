@@ -189,14 +189,27 @@ def bomb(count):
     return [header(count, count + 2, 0), *singles, *both]
 
 
+def ones(count):
+    """A bid on each good alone, cheap ones first, and one on all goods that they just do not reach."""
+    singles = [bid(number, 1 + number, [number]) for number in range(count)]
+    return [header(GOODS, count + 1, 0), *singles, bid(count, count * (count + 1) // 2 + 1, range(count))]
+
+
+def stairs(count):
+    """So many bids on each of 64 goods alone, cheap ones first: each bid of the best packing is found after all others."""
+    lines = (bid(number, 1 + number // 64, [number % 64]) for number in range(64 * count))
+    return [header(GOODS, 64 * count, 0), *lines]
+
+
 BOUNDED = ("normalise", "--bound", FILE)
 CHECK, SHOW, NORMALISE, VALUE = ("check", FILE), ("show", FILE), ("normalise", FILE), ("value", FILE)
 EXPLAIN, ROUND, COMPARE, DIFF = ("explain", FILE), ("round", FILE), ("compare", FILE, FILE), ("diff", FILE, FILE)
 MOST_STEPS = ("--steps", "1000000000")
 BOMB = 60
 BOMB_GOODS = tuple(map(str, range(BOMB)))
-BOMBS = (NORMALISE, EXPLAIN, ("normalise", *MOST_STEPS, FILE), (*VALUE, *BOMB_GOODS), ("value", *MOST_STEPS, FILE, *BOMB_GOODS))
+BOMBS = (NORMALISE, EXPLAIN, ("normalise", *MOST_STEPS, FILE), (*VALUE, *BOMB_GOODS), ("value", "--bound", FILE, *BOMB_GOODS), ("value", *MOST_STEPS, FILE, *BOMB_GOODS))
 ALL_GOODS = tuple(map(str, range(GOODS)))
+EACH_VALUE = ((*VALUE, *ALL_GOODS), ("value", "--bound", FILE, *ALL_GOODS))
 READING = (CHECK, SHOW)
 ALL = (CHECK, SHOW, NORMALISE, EXPLAIN)
 BY_BIDS = (BIDS // 4, BIDS // 2, BIDS)
@@ -236,7 +249,10 @@ INPUTS = [
     Input("like bidders of 256 bids", like_bidders, (SIDE // 4, SIDE // 2, SIDE), ALL),
     Input("XOR bids subsets of 16 goods", partial(one_bidder, subsets, True), (2**13, 2**16 - 1), (CHECK, NORMALISE, EXPLAIN)),
     Input("OR bids of one good a block", partial(one_bidder, one_of_each_block, False), (BIDS // 4, BIDS), (CHECK, NORMALISE)),
-    Input("OR bids in blocks", partial(one_bidder, in_blocks, False), (4096, BIDS), (CHECK, (*VALUE, *ALL_GOODS), ("value", "--bound", FILE, *ALL_GOODS))),
+    Input("OR bids in blocks", partial(one_bidder, in_blocks, False), (4096, BIDS), (CHECK, *EACH_VALUE)),
+    Input("a bid on each good", ones, BY_GOODS, EACH_VALUE),
+    Input("stairs on 64 goods", stairs, (16, 32, 64), EACH_VALUE),
+    Input("values of nested bids", partial(one_bidder, nested, False), BY_GOODS, EACH_VALUE),
     Input("packing bomb", bomb, (BOMB,), BOMBS),
     *(
         Input(f"{kind} on {goods} goods", partial(distributions.lines, kind, goods, seed=4), (count,), (NORMALISE, BOUNDED))

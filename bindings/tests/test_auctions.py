@@ -108,7 +108,7 @@ def test_methods_keep_the_limits(root):
     auction = yinchaku.read(root / "examples/three_reach.cats")
     calls = [partial(getattr(auction, name), *words_of(name, auction)) for name in METHODS if "steps" in TAKEN[name]]
     for call in (*calls, partial(auction.same_as, auction), partial(auction.diff, auction)):
-        for limits in ({"steps": 3}, {"total": 2}):
+        for limits in ({"steps": 1}, {"total": 1}):
             with pytest.raises(yinchaku.StepLimit):
                 call(**limits)
     for other in (BIDS.decode(), "examples/ladder.cats"):

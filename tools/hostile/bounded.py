@@ -3,9 +3,10 @@
     bounded.py PROGRAM GENERATE
 
 On 30 files of up to 2,000 bids the bounded search is to answer, the same as the plain one if that answers, and in as many steps as
-bounded_quickly of steps.py counts. On small files each limit is tried, beside the definitions of steps.py. On small texts with XOR bidders
-the canonical text is that of canonical.py, and texts are of the same auction if theirs are equal. Prints what is wrong, how many files the
-plain search answers, and 'N runs, M wrong'; the status is 0 if M is 0, and else 1.
+bounded_quickly of steps.py counts. On small files each limit is tried, beside the definitions of steps.py; a bounded search for a value
+is refused only below the steps that always suffice. On small texts with XOR bidders the canonical text is that of canonical.py, and texts
+are of the same auction if theirs are equal. Prints what is wrong, how many files the plain search answers, and 'N runs, M wrong'; the
+status is 0 if M is 0, and else 1.
 """
 import os
 import random
@@ -17,7 +18,7 @@ from functools import partial
 from typing import NamedTuple
 
 from canonical import canonical
-from steps import Bid, bounded, bounded_quickly, first_refused, or_value, plain, searches, value_searches
+from steps import Bid, bounded, bounded_quickly, first_refused, most_value_steps, or_value, plain, searches
 from tally import KINDS, TALLY
 
 PROGRAM, GENERATE = sys.argv[1:]
@@ -191,11 +192,14 @@ def judge_small_file(path):
 
 
 def judge_value(path, bids, goods):
-    made, line = value_searches(bids, goods), value_line(bids, goods)
-    words = ("value", "--bound", path, *goods)
-    judge_run(Answer(0, line, ""), *words)
-    judge_limits(made, line, words, "--steps", max(search.steps for search in made))
-    judge_limits(made, line, words, "--total-steps", sum(search.steps for search in made))
+    """With enough steps it has the value; with fewer it has it or is refused."""
+    right, words = Answer(0, value_line(bids, goods), ""), ("value", "--bound", path, *goods)
+    judge_run(right, *words)
+    for option in ("--steps", "--total-steps"):
+        judge_run(right, *words[:2], option, most_value_steps(bids, goods), *words[2:])
+        for limit in (1, 2, 5, 10, 30, 100):
+            answer = run(*words[:2], option, limit, *words[2:])
+            judge(answer in (right, refused(sorted(goods))), f"value {option} {limit} {path}", answer)
 
 
 def judge_commands(path, made, total, most):

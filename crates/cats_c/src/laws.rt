@@ -1,6 +1,6 @@
 //! A law of what a call prints.
 
-ghost use Rattle.std.specs.Prelude.{◌≡◌, ◌≢◌, ◌<◌, ℕ, List, [], ◌∷◌, Some};
+ghost use Rattle.std.specs.Prelude.{◌≡◌, ◌≢◌, ◌<◌, ℕ, false, List, [], ◌∷◌, Some};
 ghost use Rattle.cats_cmd.specs.OneText.{PrintsOf};
 ghost use Rattle.cats_c.specs.Calls.{CallsProgram, Puts, names_of, request_of};
 ghost use Rattle.cats_c.specs.declared.call.CallRequest.{CallRequest};
@@ -18,5 +18,5 @@ pub fn one_text_is_read()
         → files_of asked.task ≡ One → asked.task ≢ Round
         → CallsProgram request (text ∷ []) out out_new needed err err_new err_needed status → status < 2
         → (printed : List ℕ) × Puts printed out out_new needed
-        × PrintsOf (outcome_of asked request.bids.now) asked.prices text.bytes.now status printed }
+        × PrintsOf (outcome_of asked request.bids.now false) asked.prices text.bytes.now status printed }
 {}

@@ -2,7 +2,7 @@
 -- `round`, `duplicates`, `sizes` and rounded prices are reported on before they end, or a list of bids that is refused.
 use Rattle.cats_cmd.proofs.Common.{◌≡◌, ◌≢◌, ℕ, List, [], ◌∷◌, Option, None, Some, Result, Ok, Err, Bool, false, ◌∙◌, arith, ◌≤◌, refl, sym, ⊎_elim, ◌⊎◌, inl}
 use Rattle.cats_cmd.proofs.Common.{inr}
-use Rattle.cats_cmd.proofs.Common.{◌||◌, Kind, Device, Watched, CanonFault, Read, StepLimit, Memory, Commands}
+use Rattle.cats_cmd.proofs.Common.{◌||◌, Kind, Device, Watched, CanonFault, Read, StepLimit, Memory, CommandsIfMet}
 use Rattle.cats_cmd.proofs.Common.{Prints, CommandsOnBoth, Answer, PricedGives, PricedRefuses, RunsOnBids, outcome_of, PriceRule, is_some}
 use Rattle.cats_cmd.proofs.Common.{AnswersRequest, CarriesOut, RunsAt, RunsAtBoth, RunsFor, RunsOnOne, RunsOnTwo, RunsWith, FailsRequest, RunsCommand}
 use Rattle.cats_cmd.proofs.Common.{line_of_failure}
@@ -10,7 +10,7 @@ use Rattle.cats_cmd.proofs.Common.{NamesFolders}
 use Rattle.cats_cmd.proofs.Common.{status_of_canon_fault, status_of_read_fault, Reports, is_for_many_files, is_reporting}
 use Rattle.cats_cmd.proofs.Common.{is_many, reports, names_many_files, names_reporting, status_of_fault, RunFault}
 use Rattle.cats_cmd.proofs.Common.{Refused, Sent, PlainRequest, Files, One, Two, Many, Task, request_of, Text, Unopened, Unwritten}
-use Rattle.cats_cmd.proofs.Common.{RunsOnFile, RunsOnPair, answer_if_lost, is_lost, max, true, length, rounded_prices, status_if_lost, unwrap_or}
+use Rattle.cats_cmd.proofs.Common.{RunsOnPair, answer_if_lost, is_lost, max, true, length, rounded_prices, status_if_lost, unwrap_or}
 use Rattle.cats_text.specs.declared.read_fault.Kind.TheVariants.{Memory as NoMemory}
 use Rattle.requests.specs.Tasks.{files_of}
 use Rattle.requests.specs.declared.task.Task.TheVariants.{Round, Compare, Diff}
@@ -100,13 +100,15 @@ module _ {F W E : Type 0} (may_open : List ℕ → F → Type 0) (may_refuse : L
         RunsAt may_open remaining contents messages path request.prices (outcome_of request bids) out out_after err err_after answer
 
     kept_sent : (bids : List ℕ) (answer sent : Result ℕ RunFault) (ran : RunsOnNumbers bids answer)
-        → RunsOnFile (PricedGives remaining) (PricedRefuses remaining) contents (outcome_of request bids) ran.before ran.after out out_after sent
+        → RunsCommand contents (CommandsIfMet (PricedGives remaining) (PricedRefuses remaining) (outcome_of request bids) ran.before ran.after) out
+        out_after sent
         → Kept request.prices err_after (answer_if_lost (is_lost ran.after.rounded.count err_after) sent)
     kept_sent bids answer (Err fault) ran runs =
-        silent_run contents (Commands (PricedGives remaining) (PricedRefuses remaining) (outcome_of request bids) ran.before ran.after) out out_after fault runs
+        silent_run contents (CommandsIfMet (PricedGives remaining) (PricedRefuses remaining) (outcome_of request bids) ran.before ran.after) out out_after
+        fault runs
     kept_sent bids answer (Ok status) ran runs =
         let made = runs.answers in
-        let most = (printed _ _ _ (command_printed request bids made.file) made.made).0 in
+        let most = (printed _ _ _ (command_printed request bids false made.file) made.made).0 in
         let is = runs.is_status in
         kept_if_lost request.prices err_after (is_lost ran.after.rounded.count err_after) status (omega (arith, most, is))
         (λ plain. rw (none_given remaining ran.before ran.after (ran.opened.rule ∙ not_rounded request.prices plain) made.file made.given) at ran.reports)

@@ -159,11 +159,13 @@ differences_printed left right d = simp (texts, one_at_most)
 ruleset outcomes = (texts, is_printed-cond, is_printed-unless, is_printed-unless_refused, verdict_printed)
 
 -- the texts of all commands are of these pieces
-outcome_printed : (task : Task) (request : PlainRequest) (bids : List ℕ) (file : PlainFile) → is_printed (outcome_by task request bids file) ≡ true
-outcome_printed Check request bids file = simp texts
-outcome_printed task request bids file = simp outcomes
+outcome_printed : (task : Task) (request : PlainRequest) (bids : List ℕ) (met : Bool) (file : PlainFile)
+    → is_printed (outcome_by task request bids met file) ≡ true
+outcome_printed Check request bids met file = simp texts
+outcome_printed task request bids met file = simp outcomes
 
-pub command_printed : (request : PlainRequest) (bids : List ℕ) (file : PlainFile) → is_printed (outcome_of request bids file) ≡ true
+pub command_printed : (request : PlainRequest) (bids : List ℕ) (met : Bool) (file : PlainFile)
+    → is_printed (outcome_of request bids met file) ≡ true
 command_printed request = outcome_printed request.task request
 
 -- ---- any verdict, difference, reasons and differences

@@ -97,7 +97,7 @@ pub use Rattle.requests.specs.declared.task.Files.TheVariants.{One, Two, Many}
 pub use Rattle.requests.specs.declared.task.Task.{Task}
 pub use Rattle.command_line.specs.declared.request.NoRequest.{NoRequest}
 pub use Rattle.command_line.specs.declared.request.NoRequest.TheVariants.{WrongUsage, NoMemory}
-pub use Rattle.commands.specs.Commands.{Commands, text_of}
+pub use Rattle.commands.specs.Commands.{Commands, CommandsIfMet, text_of}
 pub use Rattle.commands.specs.Compare.{difference_text, side_text}
 pub use Rattle.commands.specs.Diff.{diff_text, goods_rows}
 pub use Rattle.commands.specs.Explain.{explanation_text, reason_cells}
@@ -118,15 +118,14 @@ pub use Rattle.commands.specs.Value.{outcome_unless}
 pub use Rattle.commands.specs.Normalise.{text_unless_refused}
 pub use Rattle.commands.specs.Normalise.{exceeds_at, naming_outcome, normalise_outcome}
 pub use Rattle.commands.specs.Meanings.{outcome_by, outcome_of}
-pub use Rattle.commands.specs.Value.{exceeds_limits, exceeds_packings}
-pub use Rattle.commands.specs.Value.{value_outcome_if}
+pub use Rattle.commands.specs.Value.{value_outcome}
 pub use Rattle.commands.specs.Outputs.{bundle_text, list_cell, number_cell, price_cell, after_commas}
 pub use Rattle.commands.specs.Pairs.{CommandsBy, CommandsOnBoth, CommandsBoth, GivesBoth, outcome_of_both}
 pub use Rattle.commands.specs.Pieces.{text_of_piece, text_of_pieces}
 pub use Rattle.commands.specs.Round.{rounded_line}
 pub use Rattle.commands.specs.Sizes.{cells, number_columns, numbers_judged}
 pub use Rattle.commands.specs.Statuses.{status_of_canon_fault, status_of_fault, status_of_read_fault}
-pub use Rattle.commands.specs.Value.{value_text, bundle_from}
+pub use Rattle.commands.specs.Value.{value_text}
 pub use Rattle.commands.specs.declared.answer.Answer.{Answer}
 pub use Rattle.commands.specs.declared.faults.HeavyBid.{HeavyBid}
 pub use Rattle.commands.specs.declared.faults.Limit.{Limit}
@@ -146,7 +145,6 @@ pub use Rattle.std.proofs.Common.{◌==◌, suc, ◌+◌, ◌/◌, ◌%◌, ◌<
 pub use Rattle.std.proofs.Common.{length-append, length-drop, get_or, map, append-nil, fold, set, replicate, zero-add, max, ltb, ◌*◌, ◌||◌, rules, decimal}
 pub use Rattle.std.proofs.Common.{tests, codes}
 pub use Rattle.std.proofs.KnownBytes.{Consumes-trans, Appends-nil, Appends-trans}
-pub use Rattle.std.proofs.Math.Path.{fun_ext}
 pub use Rattle.std.proofs.Math.Seq.{take-add, take-append_seam, take-append-add, get_or-append_seam}
 pub use Rattle.std.proofs.Math.Utf8.{low_scalar, scalar}
 pub use Rattle.std.proofs.lemmas.Bool.{both_ways, eq-eqb, and_parts, leb-true, not-true, cases_Bool, eqb-true, ne_eqb, false_from_ne_true, cases_eq, and_from}
@@ -189,5 +187,4 @@ pub use Rattle.std.specs.Prelude.{is_some, nat_le, unwrap_or, IfOk, Vec, filter,
 pub use Rattle.std.specs.Str.{all_scalars, IsUtf8, is_utf8}
 pub use Rattle.std.specs.declared.alloc.AllocError.{AllocError}
 pub use Rattle.valuation.specs.Auctions.{or_atoms_of, auction_from}
-pub use Rattle.valuation.specs.Lemmas.SearchLimits.{plain-value_steps}
 pub use Rattle.valuation.specs.declared.search.options.SearchOptions.{SearchOptions}

@@ -1,9 +1,9 @@
 -- The run on the only text of a name, if it ends in success: all of the text is read, and what is made of it is printed.
-use Rattle.cats_cmd.proofs.Common.{◌≡◌, ◌<◌, ◌++◌, ◌∙◌, ℕ, Bool, List, Option, Some, None, Result, Ok, Err, arith, refl, sym, ap, subst, append-nil}
+use Rattle.cats_cmd.proofs.Common.{false, ◌≡◌, ◌<◌, ◌++◌, ◌∙◌, ℕ, Bool, List, Option, Some, None, Result, Ok, Err, arith, refl, sym, ap, subst, append-nil}
 use Rattle.cats_cmd.proofs.Common.{PlainFile, CanonFault, Read, StepLimit, Memory, Kind, Device, status_of_canon_fault, status_of_read_fault, Watched}
-use Rattle.cats_cmd.proofs.Common.{inner_of, SendsWhole, PriceRule, Outcome, Commands, text_of, RunFault, Refused}
+use Rattle.cats_cmd.proofs.Common.{inner_of, SendsWhole, PriceRule, Outcome, CommandsIfMet, text_of, RunFault, Refused}
 use Rattle.cats_cmd.proofs.Common.{IsPriced, PricedGives, PricedRefuses, gives_by, PricedInput, answer_if_lost, is_lost}
-use Rattle.cats_cmd.proofs.Common.{status_of_fault, RunsAt, RunsOnFile}
+use Rattle.cats_cmd.proofs.Common.{status_of_fault, RunsAt, RunsCommand}
 use Rattle.std.specs.Io.KnownBytes.{Consumes, IsAtEnd}
 use Rattle.cats_text.specs.Grammar.{Spells}
 use Rattle.cats_text.specs.declared.read_fault.Kind.TheVariants.{Memory as NoMemory}
@@ -51,13 +51,13 @@ module _ {F : Type 0} (remaining : F → Option (List ℕ)) (text : List ℕ) wh
 
 module _ {F W E : Type 0} (may_open : List ℕ → F → Type 0) (remaining : F → Option (List ℕ)) (contents : W → Option (List ℕ))
     (messages : E → Option (List ℕ)) (path text : List ℕ) (only : (stream : F) → may_open path stream → remaining stream ≡ Some text)
-    (prices : Option PriceRule) (outcome : PlainFile → Outcome) (out out_after : Watched W) (err err_after : Watched E) (status : ℕ)
+    (prices : Option PriceRule) (outcome : Bool → PlainFile → Outcome) (out out_after : Watched W) (err err_after : Watched E) (status : ℕ)
     (success : status < 2) where
   abbrev Printed : Type 0
-  Printed = (printed : List ℕ) × PrintsOf outcome prices text status printed × SendsWhole contents out out_after printed
+  Printed = (printed : List ℕ) × PrintsOf (outcome false) prices text status printed × SendsWhole contents out out_after printed
 
   sent_text : (before after : PricedInput F) → IsPriced may_open prices path before
-      → WritesAnswer contents (Commands (PricedGives remaining) (PricedRefuses remaining) outcome before after) out out_after status → Printed
+      → WritesAnswer contents (CommandsIfMet (PricedGives remaining) (PricedRefuses remaining) outcome before after) out out_after status → Printed
   sent_text before after opened written =
       let rule = opened.rule in
       let made = written.answers in
@@ -71,9 +71,11 @@ module _ {F W E : Type 0} (may_open : List ℕ → F → Type 0) (remaining : F 
       lost = is_lost run.after.rounded.count err_after
 
       by : (sent : Result ℕ RunFault) → Ok status ≡ answer_if_lost lost sent
-          → RunsOnFile (PricedGives remaining) (PricedRefuses remaining) contents outcome run.before run.after out out_after sent → Printed
+          → RunsCommand contents (CommandsIfMet (PricedGives remaining) (PricedRefuses remaining) outcome run.before run.after) out out_after sent
+          → Printed
       by (Ok sent) is written =
           sent_text run.before run.after run.opened
-          (subst (λ (s : ℕ). WritesAnswer contents (Commands (PricedGives remaining) (PricedRefuses remaining) outcome run.before run.after) out out_after s)
+          (subst (λ (s : ℕ). WritesAnswer contents (CommandsIfMet (PricedGives remaining) (PricedRefuses remaining) outcome run.before run.after) out
+          out_after s)
           (sym (not_lost lost status sent (Ok status) refl success is)) written)
       by (Err fault) is written = cc

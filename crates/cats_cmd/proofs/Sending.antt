@@ -1,6 +1,7 @@
 -- A run sends what its command answers: by the command's contract, what was sent is what the run promises.
-use Rattle.cats_cmd.proofs.Common.{◌≡◌, ◌≤◌, ℕ, List, Option, Result, Ok, Err, true, refl, inr, PlainFile, ReadFault, SendFault, Watched, Memory, Which, Only}
-use Rattle.cats_cmd.proofs.Common.{Both, RunFault, Refused, Sent, Commands, text_of, Outcome, Prints, diff_outcome, naming_outcome, normalise_outcome}
+use Rattle.cats_cmd.proofs.Common.{◌≡◌, ◌≤◌, ℕ, Bool, List, Option, Result, Ok, Err, true, refl, inr, PlainFile, ReadFault, SendFault, Watched, Memory, Which}
+use Rattle.cats_cmd.proofs.Common.{Only, Both, RunFault, Refused, Sent, Commands, CommandsIfMet, text_of, Outcome, Prints, diff_outcome, naming_outcome}
+use Rattle.cats_cmd.proofs.Common.{normalise_outcome}
 use Rattle.cats_cmd.proofs.Common.{CommandsBoth, CommandsBy, GivesBoth, outcome_of_both, first_difference, auction_from, SearchOptions, Answer, Task}
 use Rattle.cats_cmd.proofs.Common.{RunsCommand, RunsOnFile, SendsAnswer, SendsAs, SendsMadeAs, WritesText}
 use Rattle.cats_cmd.proofs.AnswersShown.{difference_printed, differences_printed, is_printed, printed}
@@ -35,13 +36,19 @@ module _ {W : Type 0} (contents : W → Option (List ℕ)) (Answers : Result Ans
   command_run (Ok answer) given result sends = text_sent answer given result sends
   command_run (Err fault) given result sends = rw sends.0 (nothing_sent fault given sends.1)
 
+pub file_run_if_met : {I W : Type 0} (gives : I → I → PlainFile → Type 0) (refuses : I → I → ReadFault → Type 0) (contents : W → Option (List ℕ))
+    (outcome : Bool → PlainFile → Outcome) (before after : I) (old new : Watched W) (answer : Result Answer RunFault)
+    → CommandsIfMet gives refuses outcome before after answer → (result : Result ℕ RunFault) → SendsAnswer contents Only answer old new result
+    → RunsCommand contents (CommandsIfMet gives refuses outcome before after) old new result
+file_run_if_met gives refuses contents outcome before after old new answer given result sends =
+    command_run contents (CommandsIfMet gives refuses outcome before after) Only (λ fault none. none)
+    (λ a made. (refl, inr (record { file = made.file; given = made.given }))) old new answer given result sends
+
 pub file_run : {I W : Type 0} (gives : I → I → PlainFile → Type 0) (refuses : I → I → ReadFault → Type 0) (contents : W → Option (List ℕ))
     (outcome : PlainFile → Outcome) (before after : I) (old new : Watched W) (answer : Result Answer RunFault)
     → Commands gives refuses outcome before after answer → (result : Result ℕ RunFault) → SendsAnswer contents Only answer old new result
     → RunsOnFile gives refuses contents outcome before after old new result
-file_run gives refuses contents outcome before after old new answer given result sends =
-    command_run contents (Commands gives refuses outcome before after) Only (λ fault none. none)
-    (λ a made. (refl, inr (record { file = made.file; given = made.given }))) old new answer given result sends
+file_run gives refuses contents outcome = file_run_if_met gives refuses contents (λ met. outcome)
 
 module _ {I J : Type 0} (gives_first : I → I → PlainFile → Type 0) (refuses_first : I → I → ReadFault → Type 0)
     (gives_second : J → J → PlainFile → Type 0) (refuses_second : J → J → ReadFault → Type 0) (first first_after : I) (second second_after : J) where

@@ -21,8 +21,9 @@ use Rattle.cats_cmd.specs.Paths.{without_refusals}
 use Rattle.cats_cmd.specs.PublishRuns.{PublishesAtPaths}
 use Rattle.cats_cmd.specs.Stores.{Attempt, Text, WritesEach}
 use Rattle.cats_cmd.specs.Rounding.{Rounds}
-use Rattle.cats_cmd.specs.Runs.{RunsOnFile, RunsOnPair}
+use Rattle.cats_cmd.specs.Runs.{RunsCommand, RunsOnPair}
 use Rattle.cats_cmd.specs.SizesTables.{MakesTable}
+use Rattle.commands.specs.Commands.{CommandsIfMet}
 use Rattle.commands.specs.Outcomes.{Outcome}
 use Rattle.commands.specs.Meanings.{outcome_of}
 use Rattle.requests.specs.Requests.{PlainRequest}
@@ -112,14 +113,14 @@ module _ {F W E : Type 0} (may_open : List ℕ → F → Type 0) (remaining : F 
     (contents : W → Option (List ℕ)) (messages : E → Option (List ℕ)) where
   -- a run on a stream that was opened at the path, with its prices read so; how many were rounded is reported, or the
   -- status says that this is lost
-  pub record RunsAt (path : List ℕ) (prices : Option PriceRule) (outcome : PlainFile → Outcome)
+  pub record RunsAt (path : List ℕ) (prices : Option PriceRule) (outcome : Bool → PlainFile → Outcome)
       (out out_after : Watched W) (err err_after : Watched E) (answer : Result ℕ RunFault) : Type 0 where
     pub before : PricedInput F
     pub after : PricedInput F
     pub opened : IsPriced may_open prices path before
     pub sent : Result ℕ RunFault
-    pub runs : RunsOnFile (PricedGives remaining) (PricedRefuses remaining) contents outcome before after out out_after
-        sent
+    pub runs : RunsCommand contents (CommandsIfMet (PricedGives remaining) (PricedRefuses remaining) outcome before
+        after) out out_after sent
     pub reports : ReportsAll messages (rounding_lines path after.rounded) err err_after
     pub answers : answer ≡ answer_if_lost (is_lost after.rounded.count err_after) sent
 

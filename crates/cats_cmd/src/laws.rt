@@ -89,8 +89,8 @@ pub fn printed_lines_are_shown()
 
 /// So is what the commands on one or two files print, and `cats fault`.
 pub fn printed_answers_are_shown<I: Input, J: Input>()
-    ensures commands { (request : PlainRequest) (bids : List ℕ) (file : PlainFile) (status : ℕ) (text : List ℕ)
-        → outcome_of request bids file ≡ Prints status text → IsTextOf is_shown text }
+    ensures commands { (request : PlainRequest) (bids : List ℕ) (met : Bool) (file : PlainFile) (status : ℕ)
+        (text : List ℕ) → outcome_of request bids met file ≡ Prints status text → IsTextOf is_shown text }
     ensures comparisons { (request : PlainRequest) (first first_after : I) (second second_after : J) (answer : Answer)
         → CommandsOnBoth I.gives I.refuses J.gives J.refuses request first first_after second second_after (Ok answer)
         → IsTextOf is_shown (text_of answer.output) }

@@ -1,5 +1,5 @@
 -- What a command on one file answers.
-use Rattle.std.specs.Prelude.{◌≡◌, ◌≢◌, ◌⊎◌, ℕ, List, Result, Ok, Err, None}
+use Rattle.std.specs.Prelude.{◌≡◌, ◌≢◌, ◌⊎◌, ℕ, Bool, true, false, List, Result, Ok, Err, None}
 use Rattle.bid_file.specs.Files.{PlainFile, IsPlainFile}
 use Rattle.cats_text.specs.Faults.{fault_at}
 use Rattle.cats_text.specs.Layout.{layout}
@@ -61,6 +61,18 @@ module _ {I : Type 0} (gives : I → I → PlainFile → Type 0) (refuses : I �
   Commands old new (Err (GoodRange good)) = Makes old new (LacksGood good)
   Commands old new (Err (BidRange bid)) = Makes old new (LacksBid bid)
   Commands old new (Err fault) = ⊥
+
+-- whether an answer is that a search met its limit
+abbrev pub has_met_limit : Result Answer RunFault → Bool
+has_met_limit (Err (Refused which (StepLimit goods))) = true
+has_met_limit (Err (TooHeavy which heavy)) = true
+has_met_limit answer = false
+
+-- as `Commands`, when `outcome` depends on whether a search met its limit: it did if the answer says so
+abbrev pub CommandsIfMet : {I : Type 0} → (I → I → PlainFile → Type 0) → (I → I → ReadFault → Type 0)
+    → (Bool → PlainFile → Outcome) → I → I → Result Answer RunFault → Type 0
+CommandsIfMet gives refuses outcome old new answer =
+    Commands gives refuses (outcome (has_met_limit answer)) old new answer
 
 -- ---- a canonical file
 

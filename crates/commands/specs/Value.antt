@@ -10,8 +10,10 @@ use Rattle.valuation.specs.declared.atom.Atom.{Atom}
 use Rattle.valuation.specs.Auctions.{is_dummy, or_atoms_of, xor_atoms_of}
 use Rattle.valuation.specs.Values.{xor_value, or_value, chosen_indices}
 use Rattle.valuation.specs.Packings.{count_packings}
-use Rattle.valuation.specs.SearchLimits.{is_one_over}
-use Rattle.valuation.specs.ValueSearches.{value_steps}
+use Rattle.valuation.specs.SearchLimits.{next_steps}
+use Rattle.valuation.specs.ValueLimits.{most_value_steps}
+use Rattle.valuation.specs.declared.search.kind.SearchKind.{SearchKind}
+use Rattle.valuation.specs.declared.search.kind.SearchKind.TheVariants.{Plain, Bounded}
 use Rattle.valuation.specs.declared.search.options.SearchOptions.{SearchOptions}
 use Rattle.commands.specs.Outcomes.{Outcome, Prints, LacksGood, ExceedsSteps}
 
@@ -85,13 +87,21 @@ abbrev pub value_outcome_if : (PlainFile → Bool) → List ℕ → PlainFile �
 value_outcome_if refuses goods file =
     outcome_unless (missing_good file.goods goods) (values_unless (refuses file) (bundle_from goods) file)
 
--- a search for the value of the bundle takes more steps than the limits leave for it
-abbrev pub exceeds_limits : List ℕ → SearchOptions → PlainFile → Bool
-exceeds_limits bundle options file = is_one_over options (value_steps options.kind (or_atoms_of file.bids) bundle)
+-- whether a search is refused that met its limit or did not, and that may take more steps: a plain one if it may, a
+-- bounded one if it may and did
+abbrev pub refuses_by : SearchKind → Bool → Bool → Bool
+refuses_by Plain met may = may
+refuses_by Bounded met may = met && may
 
--- the outcome of `cats value`, by searches of any kind
-abbrev pub value_outcome_by : List ℕ → SearchOptions → PlainFile → Outcome
-value_outcome_by goods options = value_outcome_if (exceeds_limits (bundle_from goods) options) goods
+-- whether the search for the value of a bundle is refused, if it met its limit or did not
+abbrev pub is_refused : SearchOptions → List (Atom (List ℕ)) → List ℕ → Bool → Bool
+is_refused options atoms bundle met =
+    refuses_by options.kind met (nat_lt (next_steps options) (most_value_steps options.kind atoms bundle))
+
+-- the outcome of `cats value`, by a search of any kind that met its limit or did not
+abbrev pub value_outcome_by : List ℕ → SearchOptions → Bool → PlainFile → Outcome
+value_outcome_by goods options met =
+    value_outcome_if (λ file. is_refused options (or_atoms_of file.bids) (bundle_from goods) met) goods
 
 -- the bundle has more packings than the limit
 abbrev pub exceeds_packings : List ℕ → ℕ → PlainFile → Bool

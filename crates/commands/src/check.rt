@@ -1,6 +1,6 @@
 //! `cats check`: how many goods, bids and dummy goods a bid file has.
 
-ghost use Rattle.std.specs.Prelude.{[], codes};
+ghost use Rattle.std.specs.Prelude.{[], codes, false};
 ghost use Rattle.valuation.specs.SearchLimits.{plain_options};
 ghost use Rattle.commands.specs.Examples.{asked, xor_ladder};
 ghost use Rattle.commands.specs.Outcomes.{Prints};
@@ -61,6 +61,6 @@ fn sizes_line(alloc: Global, header: Header) -> Result<String, AllocError>
 
 /// What `cats check` makes of a file, and the line of some sizes.
 pub fn sizes()
-    ensures file { outcome_of (asked Check (plain_options 1)) [] xor_ladder ≡ Prints 0 (codes "goods 2 bids 3 dummy 1\n") }
+    ensures file { outcome_of (asked Check (plain_options 1)) [] false xor_ladder ≡ Prints 0 (codes "goods 2 bids 3 dummy 1\n") }
     ensures line { sizes_text 3 2 1 ≡ codes "goods 3 bids 2 dummy 1\n" }
 {}

@@ -1,6 +1,6 @@
 //! The commands on one bid file or two, by the request for them.
 
-ghost use Rattle.commands.specs.Commands.{Commands};
+ghost use Rattle.commands.specs.Commands.{CommandsIfMet};
 ghost use Rattle.commands.specs.Meanings.{outcome_of};
 ghost use Rattle.commands.specs.Pairs.{CommandsOnBoth};
 ghost use Rattle.requests.specs.Requests.{plain_request};
@@ -46,7 +46,7 @@ pub fn answer_on_file<I: Input>(
     input: &mut I,
 ) -> Result<Answer, RunFault>
     requires { I.is_ready input.old }
-    ensures { Commands I.gives I.refuses (outcome_of (plain_request request.now) bids.now) input.old input.new result }
+    ensures { CommandsIfMet I.gives I.refuses (outcome_of (plain_request request.now) bids.now) input.old input.new result }
 {
     match request.task {
         Task::Check => check::check(alloc, input),

@@ -1,9 +1,12 @@
 //! Laws of what the commands print.
 
-ghost use Rattle.std.specs.Prelude.{◌≡◌, ◌<◌, ◌≤◌, ◌↔◌, ℕ, Contains, Err, List, Ok, Some, drop, length, take, true};
+ghost use Rattle.std.specs.Prelude.{◌≡◌, ◌<◌, ◌≤◌, ◌↔◌, ℕ, Bool, Contains, Err, List, None, Ok, Some, drop, length, take};
+ghost use Rattle.std.specs.Prelude.{true};
 ghost use Rattle.bid_file.specs.Files.{IsPlainFile, PlainFile};
 ghost use Rattle.cats_text.specs.Lines.{begins_word, line_words};
 ghost use Rattle.valuation.specs.Auctions.{auction_from, or_atoms_of};
+ghost use Rattle.valuation.specs.SearchLimits.{next_steps};
+ghost use Rattle.valuation.specs.ValueLimits.{most_value_steps};
 ghost use Rattle.valuation.specs.declared.search.options.SearchOptions.{SearchOptions};
 ghost use Rattle.prune.specs.SearchSteps.{first_refused};
 ghost use Rattle.canon.specs.Canonical.{canonical_file};
@@ -13,13 +16,14 @@ ghost use Rattle.analysis.specs.Differences.{AreAllDifferences, PlainDifferences
 ghost use Rattle.analysis.specs.Reasons.{Explains, PlainReason};
 ghost use Rattle.commands.specs.Explain.{explanation_text};
 ghost use Rattle.commands.specs.Columns.{bytes_before};
-ghost use Rattle.commands.specs.Commands.{Commands};
+ghost use Rattle.commands.specs.Commands.{CommandsIfMet};
 ghost use Rattle.commands.specs.Outcomes.{Prints};
 ghost use Rattle.commands.specs.Compare.{compare_outcome};
 ghost use Rattle.commands.specs.Diff.{diff_outcome};
 ghost use Rattle.commands.specs.Explain.{explain_outcome};
 ghost use Rattle.commands.specs.Normalise.{first_bid_on, is_on};
 ghost use Rattle.commands.specs.Meanings.{outcome_of, statuses_of};
+ghost use Rattle.commands.specs.Value.{bundle_from, missing_good, value_outcome_by, value_text};
 ghost use Rattle.commands.specs.Statuses.{status_of_fault};
 ghost use Rattle.commands.specs.declared.answer.Answer.{Answer};
 ghost use Rattle.requests.specs.Requests.{PlainRequest};
@@ -42,13 +46,21 @@ pub fn named_bids_are_refused()
         × (is_on bundle (bid_at file (first_bid_on file bundle)) ≡ true) }
 {}
 
+/// A search for a value is never refused by a limit of as many steps as it may take.
+pub fn enough_steps_give_values()
+    ensures { (goods : List ℕ) (options : SearchOptions) (met : Bool) (file : PlainFile)
+        → missing_good file.goods goods ≡ None
+        → most_value_steps options.kind (or_atoms_of file.bids) (bundle_from goods) ≤ next_steps options
+        → value_outcome_by goods options met file ≡ Prints 0 (value_text file (bundle_from goods)) }
+{}
+
 /// The statuses of the commands on one file, of what they print and of their faults.
 pub fn statuses_of_commands<I: Input>()
     ensures printed { (request : PlainRequest) (bids : List ℕ) (old new : I) (answer : Answer)
-        → Commands I.gives I.refuses (outcome_of request bids) old new (Ok answer)
+        → CommandsIfMet I.gives I.refuses (outcome_of request bids) old new (Ok answer)
         → Contains (statuses_of request.task) answer.status }
     ensures refused { (request : PlainRequest) (bids : List ℕ) (old new : I) (fault : RunFault)
-        → Commands I.gives I.refuses (outcome_of request bids) old new (Err fault)
+        → CommandsIfMet I.gives I.refuses (outcome_of request bids) old new (Err fault)
         → Contains (statuses_of request.task) (status_of_fault fault) }
 {}
 

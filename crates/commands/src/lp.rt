@@ -1,6 +1,6 @@
 //! `cats lp`: the winner determination problem of a bid file, in CPLEX's LP format.
 
-ghost use Rattle.std.specs.Prelude.{◌≡◌, ◌++◌, [], codes};
+ghost use Rattle.std.specs.Prelude.{◌≡◌, ◌++◌, [], codes, false};
 ghost use Rattle.valuation.specs.SearchLimits.{plain_options};
 ghost use Rattle.commands.specs.Examples.{asked, xor_ladder};
 ghost use Rattle.commands.specs.Outcomes.{Prints};
@@ -52,12 +52,12 @@ pub(crate) fn lp<I: Input>(alloc: Global, input: &mut I) -> Result<Answer, RunFa
 
 /// What `cats lp` makes of two files, of which the second has no bids.
 pub fn lp_texts()
-    ensures shared { outcome_of (asked Lp (plain_options 1)) [] xor_ladder
+    ensures shared { outcome_of (asked Lp (plain_options 1)) [] false xor_ladder
         ≡ Prints 0 (codes "\\ revenue in millionths\nMaximize\n revenue:\n"
         ++ codes " + 5000000 x0\n + 1500000 x1\n + 6000000 x2\nSubject To\n"
         ++ codes " g0:\n + x0\n + x2\n <= 1\n g1:\n + x1\n + x2\n <= 1\n d0:\n + x0\n + x2\n <= 1\n"
         ++ codes "Binary\n x0\n x1\n x2\nEnd\n") }
-    ensures empty { outcome_of (asked Lp (plain_options 1)) [] (record { goods = 2; dummy = 1; bids = [] })
+    ensures empty { outcome_of (asked Lp (plain_options 1)) [] false (record { goods = 2; dummy = 1; bids = [] })
         ≡ Prints 0 (codes "\\ revenue in millionths\nMaximize\n revenue:\n + 0 none\n"
         ++ codes "Subject To\n none:\n + none\n <= 1\nBinary\n none\nEnd\n") }
 {}

@@ -1,6 +1,6 @@
 //! `cats normalise`: the canonical text of a bid file's auction.
 
-ghost use Rattle.std.specs.Prelude.{◌≡◌, ◌++◌, [], ◌∷◌, None, Some, codes};
+ghost use Rattle.std.specs.Prelude.{◌≡◌, ◌++◌, [], ◌∷◌, None, Some, codes, false, true};
 ghost use Rattle.valuation.specs.SearchLimits.{bounded_options, plain_options};
 ghost use Rattle.commands.specs.Examples.{asked, crossing_bids, larger_bid, repeated_bundle, xor_ladder};
 ghost use Rattle.commands.specs.Outcomes.{ExceedsAtBid, ExceedsSteps, Prints};
@@ -83,17 +83,17 @@ pub(crate) fn read_canonical<I: Input>(
 
 /// What `cats normalise` and `cats explain` make of two files: the same limits refuse one of them.
 pub fn canonical_files()
-    ensures text { outcome_of (asked Normalise (plain_options 3)) [] larger_bid
+    ensures text { outcome_of (asked Normalise (plain_options 3)) [] false larger_bid
         ≡ Prints 0 (codes "goods 2\nbids 2\ndummy 0\n0\t3\t0\t#\n1\t4\t1\t#\n") }
-    ensures refused { outcome_of (asked Normalise (plain_options 1)) [] larger_bid ≡ ExceedsSteps (0 ∷ 1 ∷ []) }
-    ensures reasons { outcome_of (asked Explain (plain_options 3)) [] larger_bid
+    ensures refused { outcome_of (asked Normalise (plain_options 1)) [] true larger_bid ≡ ExceedsSteps (0 ∷ 1 ∷ []) }
+    ensures reasons { outcome_of (asked Explain (plain_options 3)) [] false larger_bid
         ≡ Prints 0 (codes "bid\tdummy\tprice\tgoods\treason\tkept\tby\n0\t\t3\t0\tkeep\t0\t\n1\t\t4\t1\tkeep\t1\t\n"
         ++ codes "2\t\t7\t0 1\tpacking\t\t0 1\n") }
-    ensures unexplained { outcome_of (asked Explain (plain_options 1)) [] larger_bid
+    ensures unexplained { outcome_of (asked Explain (plain_options 1)) [] true larger_bid
         ≡ ExceedsAtBid (OfEach 1) 2 (0 ∷ 1 ∷ []) }
-    ensures text_of_both { outcome_of (asked Normalise (plain_options 1000)) [] xor_ladder
+    ensures text_of_both { outcome_of (asked Normalise (plain_options 1000)) [] false xor_ladder
         ≡ Prints 0 (codes "goods 2\nbids 3\ndummy 1\n0\t1.5\t1\t#\n1\t5\t0\t2\t#\n2\t6\t0\t1\t2\t#\n") }
-    ensures reasons_of_both { outcome_of (asked Explain (plain_options 1000)) [] xor_ladder
+    ensures reasons_of_both { outcome_of (asked Explain (plain_options 1000)) [] false xor_ladder
         ≡ Prints 0 (codes "bid\tdummy\tprice\tgoods\treason\tkept\tby\n0\t0\t5\t0\tkeep\t1\t\n"
         ++ codes "1\t\t1.5\t1\tkeep\t0\t\n2\t0\t6\t0 1\tkeep\t2\t\n") }
 {}
@@ -101,12 +101,12 @@ pub fn canonical_files()
 /// The limits on steps. For the goods 0, 1 and 2 the plain search enters the bid of 4 for 0 and 1; the bounded one enters no
 /// bid, since the rates add up to 6. So each bundle with a bid takes one step.
 pub fn limits_of_searches()
-    ensures plain { outcome_of (asked Normalise (plain_options 1)) [] crossing_bids ≡ ExceedsSteps (0 ∷ 1 ∷ 2 ∷ []) }
-    ensures bounded { outcome_of (asked Normalise (bounded_options 1 None)) [] crossing_bids
+    ensures plain { outcome_of (asked Normalise (plain_options 1)) [] true crossing_bids ≡ ExceedsSteps (0 ∷ 1 ∷ 2 ∷ []) }
+    ensures bounded { outcome_of (asked Normalise (bounded_options 1 None)) [] false crossing_bids
         ≡ Prints 0 (codes "goods 3\nbids 3\ndummy 0\n0\t4\t0\t1\t#\n1\t4\t1\t2\t#\n2\t7\t0\t1\t2\t#\n") }
-    ensures over_total { outcome_of (asked Normalise (bounded_options 1 (Some 2))) [] crossing_bids
+    ensures over_total { outcome_of (asked Normalise (bounded_options 1 (Some 2))) [] true crossing_bids
         ≡ ExceedsSteps (0 ∷ 1 ∷ 2 ∷ []) }
-    ensures within_total { outcome_of (asked Normalise (bounded_options 1 (Some 3))) [] crossing_bids
+    ensures within_total { outcome_of (asked Normalise (bounded_options 1 (Some 3))) [] false crossing_bids
         ≡ Prints 0 (codes "goods 3\nbids 3\ndummy 0\n0\t4\t0\t1\t#\n1\t4\t1\t2\t#\n2\t7\t0\t1\t2\t#\n") }
 {}
 

@@ -1,6 +1,6 @@
 //! `cats show`: a bid file in its one layout.
 
-ghost use Rattle.std.specs.Prelude.{◌≡◌, [], codes};
+ghost use Rattle.std.specs.Prelude.{◌≡◌, [], codes, false};
 ghost use Rattle.valuation.specs.SearchLimits.{plain_options};
 ghost use Rattle.commands.specs.Examples.{asked, xor_ladder};
 ghost use Rattle.commands.specs.Outcomes.{Prints};
@@ -46,6 +46,6 @@ pub fn show<I: Input>(alloc: Global, input: &mut I) -> Result<Answer, RunFault>
 
 /// What `cats show` makes of a file.
 pub fn layouts()
-    ensures { outcome_of (asked Show (plain_options 1)) [] xor_ladder
+    ensures { outcome_of (asked Show (plain_options 1)) [] false xor_ladder
         ≡ Prints 0 (codes "goods 2\nbids 3\ndummy 1\n0\t5\t0\t2\t#\n1\t1.5\t1\t#\n2\t6\t0\t1\t2\t#\n") }
 {}

@@ -8,12 +8,14 @@ ghost use Rattle.std.specs.Prelude.{[], ◌∷◌, codes};
 ghost use Rattle.commands.specs.Examples.{larger_bid, xor_ladder};
 ghost use Rattle.commands.specs.Outcomes.{ExceedsSteps, LacksGood, Prints};
 ghost use Rattle.commands.specs.Value.{value_outcome};
-ghost use Rattle.std.specs.Prelude.{◌≡◌, ◌≤◌, None};
+ghost use Rattle.std.specs.Prelude.{◌≡◌, ◌≤◌, None, Some, false, true};
 ghost use Rattle.bid_file.specs.Files.{IsPlainFile};
+ghost use Rattle.valuation.specs.Auctions.{or_atoms_of};
+ghost use Rattle.valuation.specs.SearchLimits.{bounded_options};
 ghost use Rattle.valuation.specs.Views.{plain_auction};
 ghost use Rattle.commands.specs.Internal.Searches.{SearchesAs};
-ghost use Rattle.commands.specs.Value.{exceeds_limits, missing_good, value_outcome_by, values_unless};
-ghost use Rattle.commands.specs.Commands.{Commands};
+ghost use Rattle.commands.specs.Value.{is_refused, missing_good, value_outcome_by, values_unless};
+ghost use Rattle.commands.specs.Commands.{CommandsIfMet};
 ghost use Rattle.commands.specs.Internal.Values.{MakesAs};
 ghost use Rattle.commands.specs.Value.{bundle_from};
 
@@ -40,7 +42,7 @@ pub fn help<'a>() -> CommandHelp<'a> {
         arguments: &[(
             "steps",
             "\
-The most packings that a search may enter, from 1 to
+The most steps of the search, from 1 to
 1000000000",
         )],
         after: "\
@@ -54,12 +56,14 @@ of a file with 40:
 A good that is named twice counts once. Numbers, lists and ranges may stand
 side by side, as in '0-9,12 15 20-39'.
 
-A step is one packing: one family of the bids without a dummy good that lie in
-the bundle and share no good. A step takes 5 to 20 nanoseconds with up to 128
-such bids, and some 30 nanoseconds more for each 1,000. If there are more than
-N packings, the program prints 'step limit at GOODS', with status 3. The
-bounded search decides many files that the plain search refuses, and its answer
-is the same. If it takes more steps too, a greater N lets the search go on:
+A step of the plain search is one packing: one family of the bids without a
+dummy good that lie in the bundle and share no good. It takes 5 to 20
+nanoseconds with up to 128 such bids, and some 30 nanoseconds more for each
+1,000. If there are more than N packings, the program prints 'step limit at
+GOODS', with status 3. The bounded search decides many files that the plain
+search refuses, and its answer is the same. A step of it is one look at the
+bids that can still be added; a look at many goods counts as one step more for
+each 1,000. If it takes more than N too, a greater N lets the search go on:
   $ cats value --bound auction.txt 0-39
   $ cats value --bound --steps 1000000000 auction.txt 0-39
 
@@ -79,7 +83,7 @@ pub fn value<I: Input>(
     options: SearchOptions,
 ) -> Result<Answer, RunFault>
     requires { I.is_ready input.old }
-    ensures { Commands I.gives I.refuses (value_outcome_by goods.now options) input.old input.new result }
+    ensures { CommandsIfMet I.gives I.refuses (value_outcome_by goods.now options) input.old input.new result }
 {
     let file = input.read_file(alloc).map_err(CanonFault::from)?;
     if let Some(good) = first_missing(goods, file.goods()) {
@@ -105,7 +109,7 @@ fn text_on_sets(
 ) -> Result<Vec<u8>, CanonFault>
     requires facts { IsPlainFile file.now }
     requires there { missing_good file.now.goods goods.now ≡ None }
-    ensures { MakesAs (values_unless (exceeds_limits (bundle_from goods.now) options file.now)
+    ensures { MakesAs (λ met. values_unless (is_refused options (or_atoms_of file.now.bids) (bundle_from goods.now) met)
         (bundle_from goods.now) file.now) result }
 {
     on_set_for!(file, text_of_values(alloc, file, goods, options))
@@ -121,7 +125,7 @@ fn text_of_values<S: GoodsSet>(
     requires facts { IsPlainFile file.now }
     requires cap { file.now.goods ≤ S.CAP }
     requires there { missing_good file.now.goods goods.now ≡ None }
-    ensures { MakesAs (values_unless (exceeds_limits (bundle_from goods.now) options file.now)
+    ensures { MakesAs (λ met. values_unless (is_refused options (or_atoms_of file.now.bids) (bundle_from goods.now) met)
         (bundle_from goods.now) file.now) result }
 {
     let bundle: S = bundle_of(alloc, goods)?;
@@ -159,11 +163,20 @@ fn best_packing<S: GoodsSet>(
     }
 }
 
-/// What `cats value` makes of two files.
+/// What `cats value` makes of two files. For both goods of the first, which has 3 bids and 5 packings, a bounded search
+/// takes 40 steps at most.
 pub fn values()
     ensures best_packing { value_outcome (1 ∷ 0 ∷ 1 ∷ []) 5 larger_bid ≡ Prints 0 (codes "or 7 2\n") }
     ensures one_good { value_outcome (1 ∷ []) 2 larger_bid ≡ Prints 0 (codes "or 4 1\n") }
     ensures step_limit { value_outcome (1 ∷ 0 ∷ []) 4 larger_bid ≡ ExceedsSteps (0 ∷ 1 ∷ []) }
+    ensures never_over { value_outcome_by (1 ∷ 0 ∷ []) (bounded_options 150085 None) true larger_bid
+        ≡ Prints 0 (codes "or 7 2\n") }
+    ensures within { value_outcome_by (1 ∷ 0 ∷ []) (bounded_options 150084 None) false larger_bid
+        ≡ Prints 0 (codes "or 7 2\n") }
+    ensures over { value_outcome_by (1 ∷ 0 ∷ []) (bounded_options 150084 None) true larger_bid
+        ≡ ExceedsSteps (0 ∷ 1 ∷ []) }
+    ensures over_all { value_outcome_by (1 ∷ 0 ∷ []) (bounded_options 150085 (Some 150084)) true larger_bid
+        ≡ ExceedsSteps (0 ∷ 1 ∷ []) }
     ensures missing { value_outcome (0 ∷ 3 ∷ 2 ∷ []) 0 larger_bid ≡ LacksGood 3 }
     ensures both { value_outcome (0 ∷ 1 ∷ []) 2 xor_ladder ≡ Prints 0 (codes "or 1.5 1\nxor 2 6 2\n") }
     ensures first { value_outcome (0 ∷ []) 1 xor_ladder ≡ Prints 0 (codes "or 0\nxor 2 5 0\n") }

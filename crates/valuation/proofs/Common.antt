@@ -41,8 +41,9 @@ pub use Rattle.std.specs.Prelude.{OnOk}
 pub use Rattle.valuation.specs.Auctions.{IsAtom, atom_of, or_atoms_of, xor_atoms_of, auction_from}
 pub use Rattle.valuation.specs.Bidders.{bidders_of, plain_auction_of}
 pub use Rattle.valuation.specs.Bounds.{IsOnGoods, rate, greatest_rate, rate_bound, IsBound, price_bound}
-pub use Rattle.valuation.specs.Internal.BestSearch.{IsPackingFrom, IsFoundFrom, IsReady}
-pub use Rattle.valuation.specs.Internal.Conflicts.{AreConflicts, KnowsHolders, AreHolders, IsLeft, AreFree, AreSharing, AreAll, are_disjoint, offers_of}
+pub use Rattle.valuation.specs.Internal.ValueSearch.{IsPackingFrom, is_candidate}
+pub use Rattle.valuation.specs.Internal.Conflicts.{AreConflicts, KnowsHolders, AreHolders, IsLeft, AreLeft, AreFree, AreSharing, AreAll, are_disjoint}
+pub use Rattle.valuation.specs.Internal.Conflicts.{offers_of}
 pub use Rattle.valuation.specs.Internal.Holders.{holders_at, indices_of}
 pub use Rattle.valuation.specs.Internal.Listed.{IsListed}
 pub use Rattle.valuation.specs.Lemmas.Atoms.{get_or-atoms_of, length-atoms_of}
@@ -62,8 +63,7 @@ pub use Rattle.valuation.specs.Lemmas.Packings.{chosen_indices-nil, chosen_indic
 pub use Rattle.valuation.specs.Lemmas.Packings.{price_sum-packing, IsPacking-unleft, IsPacking-none, price_sum-chosen}
 pub use Rattle.valuation.specs.Lemmas.Packings.{chosen_indices-best}
 pub use Rattle.valuation.specs.Lemmas.Permutations.{from_permutation}
-pub use Rattle.valuation.specs.Lemmas.SearchLimits.{is_one_over-first, is_one_over-later, is_one_over-none, options_after_all-cons, options_after_all-none}
-pub use Rattle.valuation.specs.Lemmas.SearchLimits.{options_after_all-one, is_one_over-one, is_one_over-cons, is_one_over-append}
+pub use Rattle.valuation.specs.Lemmas.SearchLimits.{options_after_all-one, is_one_over-one}
 pub use Rattle.valuation.specs.Lemmas.SearchSteps.{cut_steps-zero, cut_steps-short, cut_steps-outside, cut_steps-reached, cut_steps-missed, found_indices-zero}
 pub use Rattle.valuation.specs.Lemmas.SearchSteps.{found_indices-taken, found_indices-outside, found_indices-missed, cut_steps-nil, cut_within_packings}
 pub use Rattle.valuation.specs.Lemmas.SearchSteps.{found_indices-packing}
@@ -78,8 +78,6 @@ pub use Rattle.valuation.specs.SearchLimits.{is_one_over, options_after, options
 pub use Rattle.valuation.specs.SearchSteps.{cut_steps, found_indices}
 pub use Rattle.valuation.specs.Searches.{AreSearched, IsFound, IsSearchedBy, bound_of}
 pub use Rattle.valuation.specs.Sorting.{sort_by}
-pub use Rattle.valuation.specs.ValueSearches.{is_candidate, larger_first, largest_first, indices_from, price_above, best_from, found_from, steps_from}
-pub use Rattle.valuation.specs.ValueSearches.{steps_to_choose, steps_to_best}
 pub use Rattle.valuation.specs.Values.{or_value, chosen_indices, xor_value, IsFirstBest, atoms_of, plain_atom}
 pub use Rattle.valuation.specs.declared.atom.Atom.{Atom}
 pub use Rattle.valuation.specs.declared.packing.ValueFault.{ValueFault}

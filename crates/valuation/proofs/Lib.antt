@@ -1,5 +1,12 @@
 -- Proofs that several functions of this crate cite.
 pub mod Common
+pub mod Covers
+pub mod OpenBids
+pub mod Narrowing
+pub mod Costs
+pub mod LaterBids
+pub mod Kept
+pub mod ValueRefused
 pub mod ConflictMasks
 pub mod Sharing
 pub mod AllHolders
@@ -14,9 +21,6 @@ pub mod FewerAtoms
 pub mod PricesLeft
 pub mod RatesSoFar
 pub mod Listed
-pub mod Candidates
 pub mod Choosing
-pub mod LargestFirst
+pub mod Deciding
 pub mod SearchesInTurn
-pub mod SearchesForValue
-pub mod ValueStepsCounted

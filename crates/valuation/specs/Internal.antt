@@ -2,7 +2,8 @@
 -- them.
 pub mod Holders
 pub mod Reaching
-pub mod BestSearch
+pub mod GoodPrices
+pub mod ValueSearch
 pub mod Searches
 pub mod Conflicts
 pub mod Listed

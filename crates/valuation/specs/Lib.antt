@@ -9,7 +9,7 @@ pub mod Orders
 pub mod Auctions
 pub mod Bidders
 pub mod Searches
-pub mod ValueSearches
+pub mod ValueLimits
 pub mod Listed
 pub mod Views
 pub mod Examples

@@ -9,8 +9,6 @@ ghost use Rattle.valuation.specs.Values.{xor_value, or_value, chosen_indices};
 ghost use Rattle.valuation.specs.Packings.{atoms_at, price_sum, count_packings, IsPacking, IsBestPacking, AreThePackings};
 ghost use Rattle.valuation.specs.Bounds.{price_bound, rate_bound, IsOnGoods};
 ghost use Rattle.valuation.specs.SearchSteps.{cut_steps, found_indices};
-ghost use Rattle.valuation.specs.ValueSearches.{value_steps};
-ghost use Rattle.valuation.specs.declared.search.kind.SearchKind.{SearchKind};
 ghost use Rattle.valuation.specs.Orders.{atom_cmp, bidder_cmp};
 ghost use Rattle.valuation.specs.Sorting.{sort_by};
 ghost use Rattle.valuation.specs.Auctions.{IsAuction, auction_from};
@@ -70,8 +68,6 @@ pub fn search_laws()
         × (price ≤ price_sum (atoms_at atoms (found_indices atoms bundle price))) }
     ensures steps { (left : List (Atom (List ℕ)) → List ℕ → ℕ) (atoms : List (Atom (List ℕ))) (bundle : List ℕ) (price : ℕ)
         → 1 + cut_steps left atoms bundle price ≤ count_packings atoms bundle }
-    ensures values { (kind : SearchKind) (atoms : List (Atom (List ℕ))) (bundle : List ℕ)
-        → All (λ steps. steps ≤ count_packings atoms bundle) (value_steps kind atoms bundle) }
 {}
 
 /// The orders of atoms and of bidders are total, and answer Equal only for equal ones.

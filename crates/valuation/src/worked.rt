@@ -10,7 +10,8 @@ ghost use Rattle.valuation.specs.Bounds.{price_bound, rate, greatest_rate, rate_
 ghost use Rattle.valuation.specs.SearchSteps.{cut_steps, found_indices};
 ghost use Rattle.valuation.specs.SearchLimits.{plain_options, bounded_options, next_steps, options_after, is_one_over};
 ghost use Rattle.valuation.specs.SearchLimits.{options_after_all};
-ghost use Rattle.valuation.specs.ValueSearches.{best_from, found_from, is_candidate, largest_first, steps_from, value_steps};
+ghost use Rattle.valuation.specs.ValueLimits.{charge, goods_sum, most_value_steps, steps_a_packing};
+ghost use Rattle.valuation.specs.Internal.ValueSearch.{is_candidate, look_charge};
 ghost use Rattle.valuation.specs.Tables.{or_table, xor_table, is_nonzero};
 ghost use Rattle.valuation.specs.Orders.{atom_cmp, bidder_cmp};
 ghost use Rattle.valuation.specs.Sorting.{sort_by};
@@ -118,35 +119,31 @@ pub fn limits_worked()
     ensures no_search { is_one_over (bounded_options 0 None) [] ≡ false }
 {}
 
-/// The searches for a value: on most goods first, each for more than the best packing so far, and then one on each bid
-/// of the best packing.
-#[tactic(auto, unfolding(crate::specs::SearchSteps::cut_steps, crate::specs::SearchSteps::found_indices, crate::specs::Bounds::greatest_rate, crate::specs::Bounds::rate_bound, crate::specs::Values::or_value, crate::specs::Packings::count_packings, crate::specs::ValueSearches::steps_from, crate::specs::ValueSearches::found_from, crate::specs::ValueSearches::best_from, crate::specs::ValueSearches::steps_to_best, crate::specs::ValueSearches::steps_to_choose, crate::specs::ValueSearches::value_steps))]
-pub fn value_searches_worked()
-    ensures order { let a = atom (0 ∷ []) 3 ∷ atom (0 ∷ 1 ∷ []) 6 ∷ atom (1 ∷ []) 4 ∷ [] in
-        largest_first a ≡ 1 ∷ 0 ∷ 2 ∷ [] }
-    ensures found { let a = atom (0 ∷ []) 3 ∷ atom (1 ∷ []) 4 ∷ atom (0 ∷ 1 ∷ []) 6 ∷ [] in
-        found_from a (0 ∷ 1 ∷ []) 0 1 ≡ 2 ∷ [] }
-    ensures found_later { let a = atom (0 ∷ []) 3 ∷ atom (1 ∷ []) 4 ∷ atom (0 ∷ 1 ∷ []) 6 ∷ [] in
-        found_from a (0 ∷ 1 ∷ []) 1 4 ≡ 2 ∷ [] }
-    ensures steps { let a = atom (0 ∷ []) 3 ∷ atom (1 ∷ []) 4 ∷ atom (0 ∷ 1 ∷ []) 6 ∷ [] in
-        steps_from a (0 ∷ 1 ∷ []) 0 7 ≡ 4 }
-    ensures best { let a = atom (0 ∷ []) 3 ∷ atom (1 ∷ []) 4 ∷ atom (0 ∷ 1 ∷ []) 6 ∷ [] in
-        best_from 7 a (0 ∷ 1 ∷ []) [] ≡ 0 ∷ 1 ∷ [] }
+/// The most steps that a search for a value takes. A look is charged a step, and one more for each 1,000 goods.
+#[tactic(auto, unfolding(crate::specs::Packings::count_packings, crate::specs::ValueLimits::most_value_steps))]
+pub fn value_limits_worked()
+    ensures none { charge 0 ≡ 1 }
+    ensures few { charge 999 ≡ 1 }
+    ensures thousand { charge 1000 ≡ 2 }
+    ensures goods { goods_sum (atom (0 ∷ []) 3 ∷ atom (0 ∷ 1 ∷ []) 6 ∷ []) ≡ 3 }
+    ensures a_packing { steps_a_packing (atom (0 ∷ []) 3 ∷ atom (1 ∷ []) 4 ∷ atom (0 ∷ 1 ∷ []) 6 ∷ []) ≡ 30017 }
     ensures bounded { let a = atom (0 ∷ []) 3 ∷ atom (1 ∷ []) 4 ∷ atom (0 ∷ 1 ∷ []) 6 ∷ [] in
-        value_steps Bounded a (0 ∷ 1 ∷ []) ≡ 2 ∷ 4 ∷ 1 ∷ 2 ∷ 1 ∷ [] }
+        most_value_steps Bounded a (0 ∷ 1 ∷ []) ≡ 150085 }
+    ensures inside { let a = atom (0 ∷ []) 3 ∷ atom (1 ∷ []) 4 ∷ atom (0 ∷ 1 ∷ []) 6 ∷ [] in
+        most_value_steps Bounded a (0 ∷ []) ≡ 60018 }
     ensures plain { let a = atom (0 ∷ []) 3 ∷ atom (1 ∷ []) 4 ∷ atom (0 ∷ 1 ∷ []) 6 ∷ [] in
-        value_steps Plain a (0 ∷ 1 ∷ []) ≡ 5 ∷ [] }
-    ensures later_reaches { let a = atom (0 ∷ []) 5 ∷ atom (0 ∷ []) 5 ∷ [] in
-        value_steps Bounded a (0 ∷ []) ≡ 2 ∷ 1 ∷ 2 ∷ 1 ∷ [] }
-    ensures no_bid { value_steps Bounded [] (0 ∷ []) ≡ 1 ∷ [] }
+        most_value_steps Plain a (0 ∷ 1 ∷ []) ≡ 5 }
+    ensures no_bid { most_value_steps Bounded [] (0 ∷ []) ≡ 30005 }
 {}
 
-/// The bids that the search for a best packing visits.
+/// The bids that decide on one, and what a look at bids is charged.
 fn candidates_worked()
     ensures there { is_candidate (atom (0 ∷ []) 3 ∷ atom (1 ∷ []) 4 ∷ []) (1 ∷ []) 1 1 ≡ true }
     ensures outside { is_candidate (atom (0 ∷ []) 3 ∷ atom (1 ∷ []) 4 ∷ []) (1 ∷ []) 0 0 ≡ false }
     ensures before { is_candidate (atom (0 ∷ []) 3 ∷ atom (1 ∷ []) 4 ∷ []) (0 ∷ 1 ∷ []) 1 0 ≡ false }
     ensures numbers { numbers_at (7 ∷ 5 ∷ []) (1 ∷ 0 ∷ []) ≡ 5 ∷ 7 ∷ [] }
+    ensures charged { look_charge true (atom (0 ∷ []) 3 ∷ []) ≡ 2 }
+    ensures not_charged { look_charge false (atom (0 ∷ []) 3 ∷ []) ≡ 0 }
 {}
 
 /// A table has the values on all bundles, in order.

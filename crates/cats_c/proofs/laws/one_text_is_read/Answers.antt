@@ -64,7 +64,7 @@ module _ (request : CallRequest) (name : List ℕ) (asked : PlainRequest) where
 module _ (request : CallRequest) (text : CallText) (asked : PlainRequest) (out out_after err err_after : Output) (status : ℕ)
     (success : status < 2) (empty : (inner_of out).items ≡ []) where
   abbrev Printed : Type 0
-  Printed = PrintsOf (outcome_of asked request.bids.now) asked.prices text.bytes.now status (inner_of out_after).items
+  Printed = PrintsOf (outcome_of asked request.bids.now false) asked.prices text.bytes.now status (inner_of out_after).items
 
   opened : (path : List ℕ) (stream : Bor (List ℕ)) → IsTextAt (text ∷ []) path stream → left_of stream ≡ Some text.bytes.now
   opened path stream h = ap left_of (the_only_text text path stream h)
@@ -74,7 +74,7 @@ module _ (request : CallRequest) (text : CallText) (asked : PlainRequest) (out o
   at_text path run =
       let found = run_prints (IsTextAt (text ∷ [])) left_of printed_of printed_of path text.bytes.now (opened path) asked.prices
       (outcome_of asked request.bids.now) out out_after err err_after status success run in
-      subst (PrintsOf (outcome_of asked request.bids.now) asked.prices text.bytes.now status)
+      subst (PrintsOf (outcome_of asked request.bids.now false) asked.prices text.bytes.now status)
       (sym (found.2.appended ∙ ap (λ (front : List ℕ). front ++ found.0) empty)) found.1
 
   on_bids : (list : Option (List ℕ)) (bids path : List ℕ) → list ≡ None → bids ≡ request.bids.now

@@ -4,7 +4,7 @@ use Rattle.cats_cmd.proofs.Sending.{pair_facts}
 use Rattle.cats_cmd.proofs.laws.printed_answers_are_shown.Goals as goal
 
 pub returns-clause-commands : goal.returns-clause-commands
-returns-clause-commands g c = λ request bids file status text is. (printed _ status text (command_printed request bids file) is).1
+returns-clause-commands g c = λ request bids met file status text is. (printed _ status text (command_printed request bids met file) is).1
 
 pub returns-clause-comparisons : goal.returns-clause-comparisons
 returns-clause-comparisons g c = λ request first first_after second second_after answer given.

@@ -1,5 +1,5 @@
 -- `statuses_of_commands`: if the statuses of what a command makes of files are in a list, and 2, 4 and 5 are too, so are the statuses of its answers.
-use Rattle.commands.proofs.Common.{◌≡◌, ℕ, true, List, Ok, Err, arith, refl, PlainFile, ReadFault, CanonFault, StepLimit, Memory, RunFault}
+use Rattle.commands.proofs.Common.{◌≡◌, ℕ, Bool, true, false, List, Ok, Err, arith, refl, PlainFile, ReadFault, CanonFault, StepLimit, Memory, RunFault}
 use Rattle.commands.proofs.Common.{Refused, Outcome, Prints, Answer, Kind}
 use Rattle.std.specs.Prelude.{eqb}
 use Rattle.canon.specs.declared.canon_fault.CanonFault.TheVariants.{Read}
@@ -10,7 +10,7 @@ use Rattle.std.specs.List.{list_any}
 use Rattle.std.proofs.lemmas.Bool.{eqb-true}
 use Rattle.std.proofs.lemmas.Map.Views.{Contains-from_any}
 use Rattle.cats_text.specs.declared.read_fault.Kind.TheVariants.{Device, Memory as NoMemory}
-use Rattle.commands.specs.Commands.{IsRefused}
+use Rattle.commands.specs.Commands.{IsRefused, has_met_limit}
 use Rattle.commands.specs.Meanings.{outcome_by, outcome_of, statuses_of}
 use Rattle.requests.specs.Requests.{PlainRequest}
 use Rattle.requests.specs.declared.task.Task.{Task}
@@ -51,15 +51,16 @@ module _ (statuses : List ℕ) (two : Has statuses 2) (four : Has statuses 4) (f
     of_answer : (answer : Answer) → Commands gives refuses outcome old new (Ok answer) → Has statuses answer.status
     of_answer answer h = grind (arith, of_file h.file)
 
-has_status : (task : Task) (request : PlainRequest) (bids : List ℕ) (file : PlainFile) → Has (statuses_of task) (status_in (outcome_by task request bids file))
-has_status task request bids file = grind arith
+has_status : (task : Task) (request : PlainRequest) (bids : List ℕ) (met : Bool) (file : PlainFile)
+    → Has (statuses_of task) (status_in (outcome_by task request bids met file))
+has_status task request bids met file = grind arith
 
 pub returns : goal.returns
 returns g c = record {
   printed = λ request bids old new answer h. Contains-from_any eqb-true answer.status (statuses_of request.task)
-      (of_answer (statuses_of request.task) refl refl refl g.I.Input.gives g.I.Input.refuses (outcome_of request bids)
-      (has_status request.task request bids) old new answer h);
+      (of_answer (statuses_of request.task) refl refl refl g.I.Input.gives g.I.Input.refuses (outcome_of request bids false)
+      (has_status request.task request bids false) old new answer h);
   refused = λ request bids old new fault h. Contains-from_any eqb-true (status_of_fault fault) (statuses_of request.task)
-      (of_fault (statuses_of request.task) refl refl refl g.I.Input.gives g.I.Input.refuses (outcome_of request bids)
-      (has_status request.task request bids) old new fault h);
+      (of_fault (statuses_of request.task) refl refl refl g.I.Input.gives g.I.Input.refuses (outcome_of request bids (has_met_limit (Err fault)))
+      (has_status request.task request bids (has_met_limit (Err fault))) old new fault h);
 }

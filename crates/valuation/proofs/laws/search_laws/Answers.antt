@@ -1,7 +1,6 @@
 -- `search_laws`
 use Rattle.valuation.proofs.Common.{rules, cut_within_packings, found_indices-packing}
-use Rattle.valuation.proofs.ValueStepsCounted.{value_steps-counted}
 use Rattle.valuation.proofs.laws.search_laws.Goals as goal
 
 pub returns : goal.returns
-returns c = search (rules, found_indices-packing, cut_within_packings, value_steps-counted)
+returns c = search (rules, found_indices-packing, cut_within_packings)
