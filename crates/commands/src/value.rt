@@ -163,8 +163,8 @@ fn best_packing<S: GoodsSet>(
     }
 }
 
-/// What `cats value` makes of two files. For both goods of the first, which has 3 bids and 5 packings, a bounded search
-/// takes 40 steps at most.
+/// What `cats value` makes of two files. For both goods of the first, which has 3 bids and 5 packings, a bounded search is
+/// never refused with 150,085 steps.
 pub fn values()
     ensures best_packing { value_outcome (1 ∷ 0 ∷ 1 ∷ []) 5 larger_bid ≡ Prints 0 (codes "or 7 2\n") }
     ensures one_good { value_outcome (1 ∷ []) 2 larger_bid ≡ Prints 0 (codes "or 4 1\n") }
