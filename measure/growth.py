@@ -205,6 +205,10 @@ BOUNDED = ("normalise", "--bound", FILE)
 CHECK, SHOW, NORMALISE, VALUE = ("check", FILE), ("show", FILE), ("normalise", FILE), ("value", FILE)
 EXPLAIN, ROUND, COMPARE, DIFF = ("explain", FILE), ("round", FILE), ("compare", FILE, FILE), ("diff", FILE, FILE)
 MOST_STEPS = ("--steps", "1000000000")
+MOST_OF_EACH = (
+    CHECK, ("check", "--round", FILE), ("fault", FILE), ROUND, SHOW, ("lp", FILE), ("revenue", FILE, "0"), (*VALUE, "0"), BOUNDED, ("sizes", FILE),
+    EXPLAIN, ("duplicates", FILE), COMPARE, DIFF,
+)  # fmt: skip
 BOMB = 60
 BOMB_GOODS = tuple(map(str, range(BOMB)))
 BOMBS = (NORMALISE, EXPLAIN, ("normalise", *MOST_STEPS, FILE), (*VALUE, *BOMB_GOODS), ("value", "--bound", FILE, *BOMB_GOODS), ("value", *MOST_STEPS, FILE, *BOMB_GOODS))
@@ -215,6 +219,8 @@ ALL = (CHECK, SHOW, NORMALISE, EXPLAIN)
 BY_BIDS = (BIDS // 4, BIDS // 2, BIDS)
 BY_GOODS = (GOODS // 4, GOODS // 2, GOODS)
 BY_MEBIBYTES = (64, 128, 256)
+# On 2,900 goods so many bids are files of 1, 10, 100 and 900 MB.
+BY_MEMORY = (73, 728, 7_282, BIDS)
 
 FAMILIES = {
     "on one bundle": (on_one_bundle, BY_BIDS),
@@ -257,6 +263,10 @@ INPUTS = [
     *(
         Input(f"{kind} on {goods} goods", partial(distributions.lines, kind, goods, seed=4), (count,), (NORMALISE, BOUNDED))
         for kind, goods, count in (("l2", 20, 1000), ("l2", 64, 2000), ("l6", 64, 2000), ("regions", 256, 2000))
+    ),
+    *(
+        Input(f"memory, bids of {size} goods", partial(one_bidder, partial(of_sizes, GOODS, size, size), False), sizes, MOST_OF_EACH)
+        for size, sizes in ((4, (BIDS,)), (2_900, BY_MEMORY))
     ),
     Input("bids on all goods", partial(whole_bids, False), BY_BIDS, (*ALL, ROUND, COMPARE, DIFF)),
     Input("bidders for all goods", partial(whole_bids, True), BY_BIDS, (*ALL, ROUND, COMPARE, DIFF)),
