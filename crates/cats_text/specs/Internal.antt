@@ -1,5 +1,6 @@
 -- What the contracts of private functions cite, and the facts that private types keep. No public contract rests on
 -- them.
+pub mod Finding
 pub mod LeadingToken
 pub mod Kept
 pub mod Machine

@@ -5,6 +5,7 @@ pub mod Views
 pub mod Grammar
 pub mod Faults
 pub mod FaultPlaces
+pub mod FaultLines
 pub mod Layout
 pub mod Streams
 pub mod Examples

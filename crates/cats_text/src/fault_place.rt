@@ -8,6 +8,7 @@ ghost use Rattle.cats_text.specs.Views.{plain_place};
 ghost use Rattle.cats_text.specs.Internal.Machine.{summary};
 ghost use Rattle.cats_text.specs.Internal.Places.{
   IsFirstWord,
+  IsNextWord,
   IsFirstLine,
   without_return,
   seen,
@@ -17,6 +18,7 @@ ghost use Rattle.cats_text.specs.Internal.Places.{
 };
 
 use crate::keep::BidCount;
+use crate::leading_token::leading_token;
 use crate::parser::Parser;
 use crate::read_fault::Kind;
 use crate::scanner::line_feed;
@@ -78,8 +80,22 @@ fn split_word(line: &[u8]) -> Option<(&[u8], &[u8])>
     Some((&ahead[..end], &ahead[end..]))
 }
 
+/// The first word of a line, what is behind it, and what the parser keeps of the word. A word with a blank behind it is read
+/// as the scanner reads it.
+fn next_word(line: &[u8]) -> Option<(&[u8], &[u8], Word)>
+    ensures { MatchOption result (line_words line.now ≡ []) (λ next. IsNextWord line.now next.0.now next.1.now next.2) }
+{
+    if let Some((word, taken)) = leading_token(line) {
+        if is_blank(line[taken - 1]) {
+            return Some((&line[..taken - 1], &line[taken..], word));
+        }
+    }
+    let (text, behind) = split_word(line)?;
+    Some((text, behind, word_of(text)))
+}
+
 /// A line without a CR at its end.
-fn without_return(line: &[u8]) -> &[u8]
+pub(crate) fn without_return(line: &[u8]) -> &[u8]
     ensures { result.now ≡ without_return line.now }
 {
     let Some((last, before)) = line.split_last() else {
@@ -118,8 +134,8 @@ fn judge_words<'a>(
 {
     let mut word = 1;
     let mut rest = line;
-    while let Some((text, behind)) = split_word(rest) {
-        if let Err(kind) = parser.take_word(word_of(text)) {
+    while let Some((text, behind, kept)) = next_word(rest) {
+        if let Err(kind) = parser.take_word(kept) {
             return Err(FaultPlace {
                 line: number,
                 word,
@@ -139,7 +155,7 @@ fn judge_words<'a>(
 }
 
 /// Judges a line, unless it is empty or a comment.
-fn judge_line<'a>(
+pub(crate) fn judge_line<'a>(
     parser: &mut Parser<BidCount>,
     number: u64,
     line: &'a [u8],

@@ -4,6 +4,7 @@
 mod bid_lines;
 mod bids_by_number;
 mod eight;
+pub mod fault_finder;
 pub mod fault_place;
 mod good_list;
 mod history;

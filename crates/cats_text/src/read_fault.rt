@@ -86,6 +86,18 @@ impl ReadFault {
     }
 }
 
+impl From<AllocError> for ReadFault {
+    ghost use Rattle.std.specs.Prelude.{◌≡◌};
+    ghost use Rattle.cats_text.specs.Faults.{fault_at};
+    ghost use Rattle.cats_text.specs.declared.read_fault.Kind.TheVariants.{Memory};
+
+    ghost from_gives = { λ _ fault. fault ≡ fault_at 0 Memory };
+
+    fn from(_refused: AllocError) -> ReadFault {
+        ReadFault::whole(Kind::Memory)
+    }
+}
+
 /// A writer failed. It took the first `written` bytes of what was sent to it, which is all of them where only the last
 /// flush failed.
 #[derive(Clone, Copy, PartialEq, Eq, Debug, Drop, Error)]

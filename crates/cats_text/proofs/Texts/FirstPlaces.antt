@@ -6,7 +6,7 @@ use Rattle.cats_text.proofs.Common.{AllByRecursion, Word, RawLine, Line, raw_lin
 use Rattle.cats_text.proofs.Common.{line_count, word_fault, end_fault, words_fault, line_fault, lines_fault, first_fault, fault_at, PlainPlace, place_behind}
 use Rattle.cats_text.proofs.Common.{words_place, lines_place, first_place, fault_of, plain_place, FaultPlace, number_alone, summary, Reading, start, word_read}
 use Rattle.cats_text.proofs.Common.{line_read, is_due, Judged, judged_at, judged_then, words_judged, line_judged, Progress, Kind, Missing, ReadFault}
-use Rattle.cats_text.proofs.Common.{common_steps}
+use Rattle.cats_text.proofs.Common.{common_steps, ◌≢◌, Memory, Stops}
 use Rattle.cats_text.proofs.Parsing.Lines.{word_step, line_step, due_step}
 use Rattle.cats_text.proofs.Parsing.States.{IsAt, WordFollows}
 use Rattle.cats_text.proofs.Parsing.WholeLines.{IsWord}
@@ -110,6 +110,11 @@ line_passed text n raw raws p q b judged = elim (is_significant (line_words raw.
           }
       | false ↦ search (rules, IsAt, kept_behind)
     ] refl judged
+
+-- a call that did not lack memory stopped where the machine does
+pub machine_stops : (kind : Kind) (N F : Type 0) → kind ≢ Memory → Stops kind N F → F
+machine_stops Memory N F other stop = absurd (other refl)
+machine_stops kind N F other stop = stop
 
 -- behind the last line
 pub lines_ended : (text : List ℕ) (n : ℕ) (p : Progress) → IsBehind text n [] p → first_place text ≡ cond (is_due p) (Some (place_behind n [] [] Missing)) None

@@ -5,6 +5,9 @@ use Rattle.cats_text.proofs.Common.{take, ap, drop, get_or, refl, sym, ap₂, �
 use Rattle.cats_text.proofs.Common.{length-append, both_ways, eqb-true, ltb-true, ltb-false, cases_lt, take-append-drop, drop_all, take_all, length-drop}
 use Rattle.cats_text.proofs.Common.{length-take, fails_before_first, passes_at_first, AllByRecursion, position, position_or_len, unwrap_or, is_blank, raw_lines}
 use Rattle.cats_text.proofs.Common.{with_byte, line_ends, blank_returns, line_byte, line_words, IsFirstWord, IsFirstLine, without_return, common_steps}
+use Rattle.cats_text.proofs.Common.{◌-◌, IsLeadingToken, IsPlain}
+use Rattle.cats_text.specs.Internal.Places.{IsNextWord}
+use Rattle.cats_text.specs.declared.word.Word.{Word as Kept}
 use Rattle.cats_text.proofs.Scanning.Lines.{IsNoEnd, words_blank, words_last, words_next}
 use Rattle.cats_text.proofs.Texts.FirstFaults.{words_trailing}
 
@@ -88,6 +91,65 @@ pub first_word : (line : List ℕ) (start end : ℕ) → IsFound (λ b. not (is_
     → IsFirstWord line (take end (drop start line)) (drop end (drop start line))
 first_word line start end blanks some letters = grind (arith, common_steps, behind_blanks, drop-cons, first_kept, length-drop, not_true, word_of_letters)
 
+-- ---- the leading token
+
+letters_of : (ds : List ℕ) → AllByRecursion IsPlain ds → AllByRecursion (λ b. is_blank b ≡ false) ds
+letters_of [] h = tt
+letters_of (d ∷ ds) h = (letter_of d h.0, letters_of ds h.1)
+  where
+    letter_of : (b : ℕ) → IsPlain b → is_blank b ≡ false
+    letter_of b plain = let above = plain.0 in grind (arith, common_steps)
+
+letter_at : (xs : List ℕ) (n k : ℕ) → k < n → n ≤ length xs → AllByRecursion (λ b. is_blank b ≡ false) (take n xs) → is_blank (get_or xs k 0) ≡ false
+letter_at [] n k l w h = absurd (omega arith)
+letter_at (x ∷ xs) zero k l w h = absurd (omega arith)
+letter_at (x ∷ xs) (suc n) zero l w h = h.0
+letter_at (x ∷ xs) (suc n) (suc k) l w h = letter_at xs n k (omega arith) (omega arith) h.1
+
+-- a token is the first word if a blank is its last byte
+pub token_word : (line : List ℕ) (word : Kept) (taken : ℕ) → IsLeadingToken line word taken → is_blank (get_or line (taken - 1) 0) ≡ true
+    → IsNextWord line (take (taken - 1) line) (drop taken line) word
+token_word line word taken token blank =
+    elim (eqb (get_or line token.count 0) 10) as
+    (λ t. taken ≡ token.count + cond t 0 1 → IsNextWord line (take (taken - 1) line) (drop taken line) word) [
+      | true ↦ λ (is : taken ≡ token.count + 0).
+          absurd (both_ways (is_blank (get_or line (taken - 1) 0))
+          (letter_at line token.count (taken - 1) (omega (arith, is, some)) token.kept.within letters) blank)
+      | false ↦ λ (is : taken ≡ token.count + 1).
+          let before : taken - 1 ≡ token.count = omega (arith, is) in
+          subst (λ (n : ℕ). IsNextWord line (take (taken - 1) line) (drop n line) word) (sym is)
+          (subst (λ (n : ℕ). IsNextWord line (take n line) (drop (token.count + 1) line) word) (sym before)
+          (at_count (subst (λ (n : ℕ). is_blank (get_or line n 0) ≡ true) before blank)))
+    ] token.is
+  where
+    some : 0 < token.count
+    some = token.kept.some
+
+    letters : AllByRecursion (λ b. is_blank b ≡ false) (take token.count line)
+    letters = letters_of (take token.count line) token.kept.plain
+
+    begins : IsFound (λ b. not (is_blank b)) line 0
+    begins = record {
+      within = omega arith;
+      before = tt;
+      passes = λ m. ap not (letter_at line token.count 0 some token.kept.within letters);
+    }
+
+    at_count : is_blank (get_or line token.count 0) ≡ true → IsNextWord line (take token.count line) (drop (token.count + 1) line) word
+    at_count ends =
+        let found : IsFound is_blank line token.count = record { within = token.kept.within; before = letters; passes = λ m. ends } in
+        let first = first_word line 0 token.count begins (omega (arith, token.within)) found in
+        let behind : drop token.count line ≡ get_or line token.count 0 ∷ drop (suc token.count) line = drop-cons line token.count 0 token.within in
+        let next : suc token.count ≡ token.count + 1 = omega arith in
+        record {
+          first = record {
+            words = first.words ∙ ap (λ ws. take token.count line ∷ ws) (ap line_words behind
+                ∙ words_blank (get_or line token.count 0) (drop (suc token.count) line) ends ∙ ap (λ (n : ℕ). line_words (drop n line)) next);
+            within = let count = token.within in omega (arith, length-drop (token.count + 1) line);
+          };
+          is = token.kept.word;
+        }
+
 -- ---- the first line
 
 returns_cut : (xs bs : List ℕ) → blank_returns (xs ++ 10 ∷ bs) ≡ blank_returns xs ++ 10 ∷ blank_returns bs
@@ -127,11 +189,11 @@ with_last [] b e = ap (λ t. cond t [] (b ∷ [])) e
 with_last (x ∷ []) b e = ap (λ ds. x ∷ ds) (with_last [] b e)
 with_last (x ∷ y ∷ ys) b e = ap (λ ds. x ∷ ds) (with_last (y ∷ ys) b e)
 
-line_to_end : (xs : List ℕ) → 0 < length xs → AllByRecursion IsNoEnd xs → IsFirstLine xs (without_return xs) []
+pub line_to_end : (xs : List ℕ) → 0 < length xs → AllByRecursion IsNoEnd xs → IsFirstLine xs (without_return xs) []
 line_to_end [] some h = absurd (omega arith)
 line_to_end (x ∷ xs) some h = search (rules, lines_last, returns_no_end, words_of_line)
 
-line_to_feed : (xs bs : List ℕ) → AllByRecursion IsNoEnd xs → IsFirstLine (xs ++ 10 ∷ bs) (without_return xs) bs
+pub line_to_feed : (xs bs : List ℕ) → AllByRecursion IsNoEnd xs → IsFirstLine (xs ++ 10 ∷ bs) (without_return xs) bs
 line_to_feed xs bs h = record {
   raw = record { bytes = blank_returns xs; ended = true };
   lines = ap raw_lines (returns_cut xs bs) ∙ lines_cut (blank_returns xs) (blank_returns bs) (returns_no_end xs h);

@@ -13,11 +13,17 @@ use Rattle.cats_text.specs.declared.fault_place.FaultPlace.{FaultPlace}
 use Rattle.cats_text.specs.declared.keep.BidCount.{BidCount}
 use Rattle.cats_text.specs.declared.parser.Parser.{Parser}
 use Rattle.cats_text.specs.declared.parser.Stage.TheVariants.{Bid}
+use Rattle.cats_text.specs.declared.word.Word.{Word as Kept}
 
 -- the first word of a line, and what is behind it
 pub record IsFirstWord (line word behind : List ℕ) : Type 0 where
   pub words : line_words line ≡ word ∷ line_words behind
   pub within : length behind < length line
+
+-- the same, and what the parser keeps of the word
+pub record IsNextWord (line word behind : List ℕ) (kept : Kept) : Type 0 where
+  pub first : IsFirstWord line word behind
+  pub is : kept ≡ summary word
 
 -- a text begins with a line of these words, and what is behind its LF
 pub record IsFirstLine (text line behind : List ℕ) : Type 0 where

@@ -2,7 +2,9 @@
 
 use cats_text::Kind;
 use cats_text::Kind::{AfterEnd, Header, Missing, NoEnd, NotANumber, RepeatedGood, TooFine};
+use cats_text::fault_finder::{FaultFinder, FaultLine};
 use cats_text::fault_place::place_of_fault;
+use std::alloc::{AllocError, Global};
 use std::test::Fail;
 
 /// Texts with a fault, and its line, its word, the bytes of the word, and its kind.
@@ -28,6 +30,39 @@ fn places_of_faults(rt: HostRuntime) -> Result<(), Fail> {
         assert_eq!(rt; found, (*line, *word, *bytes, *kind), "of {text:?}");
     }
     let faultless = place_of_fault(rt.alloc(), b"goods 0\nbids 0\ndummy 0\n")?;
+    assert!(rt; faultless.is_none());
+    Ok(())
+}
+
+/// What a finder finds in a text that comes in two pieces, the first of which has this length.
+fn found_in_pieces(
+    alloc: Global,
+    text: &[u8],
+    length: usize,
+) -> Result<Option<FaultLine>, AllocError> {
+    let (first, second) = text.split_at(length.min(text.len()));
+    let finder = FaultFinder::new(alloc);
+    finder.feed(first)?.feed(second)?.finish()
+}
+
+#[test]
+fn places_in_pieces(rt: HostRuntime) -> Result<(), Fail> {
+    for (text, line, word, _, kind) in TEXTS {
+        let lines = text.split(|byte| *byte == b'\n');
+        let bytes = lines.skip(*line as usize - 1).next().unwrap_or(b"");
+        for length in 0..=text.len() {
+            let Some(found) = found_in_pieces(rt.alloc(), text, length)? else {
+                panic!(&rt; "no fault of {text:?} after {length} bytes");
+            };
+            let place = (found.line, found.word, found.bytes.as_slice(), found.kind);
+            assert_eq!(rt;
+                place,
+                (*line, *word, bytes, *kind),
+                "of {text:?} after {length} bytes"
+            );
+        }
+    }
+    let faultless = found_in_pieces(rt.alloc(), b"goods 0\nbids 0\ndummy 0\n", 1)?;
     assert!(rt; faultless.is_none());
     Ok(())
 }

@@ -1,7 +1,7 @@
 -- `place_of_fault`
-use Rattle.cats_text.proofs.Common.{rules, ◌≢◌, refl, [], ap, ◌∙◌, sym, subst, arith, add-one, eqb-true, raw_lines, blank_returns, seen, line_judged, Stops}
-use Rattle.cats_text.proofs.Common.{plain_place, Kind, Memory}
-use Rattle.cats_text.proofs.Texts.FirstPlaces.{IsBehind, at_first_line, line_stopped, line_passed, lines_ended, none_left, place_if}
+use Rattle.cats_text.proofs.Common.{rules, [], ap, ◌∙◌, sym, subst, arith, add-one, eqb-true, raw_lines, blank_returns, seen, line_judged}
+use Rattle.cats_text.proofs.Common.{plain_place}
+use Rattle.cats_text.proofs.Texts.FirstPlaces.{IsBehind, at_first_line, line_stopped, line_passed, lines_ended, machine_stops, none_left, place_if}
 use Rattle.cats_text.proofs.fault_place.place_of_fault.Goals as goal
 use Rattle.cats_text.proofs.fault_place.place_of_fault.Goals.{in-Memory, in_default-kind}
 
@@ -19,11 +19,6 @@ loop-rest-preserved c =
       behind = rw add-one next;
       count = let within = f.within in let count = c.loop-rest.invariant.count in omega arith;
     }
-
--- a call that did not lack memory stopped where the machine does
-machine_stops : (kind : Kind) (N F : Type 0) → kind ≢ Memory → Stops kind N F → F
-machine_stops Memory N F other stop = absurd (other refl)
-machine_stops kind N F other stop = stop
 
 pub returns-in-Err-clause-place : goal.returns-in-Err-clause-place
 returns-in-Err-clause-place c =
