@@ -38,16 +38,16 @@ letter_alone x c cs ws e f = rw e (rw f refl)
 letter_joins : (x c : ℕ) (cs : List ℕ) (ws : List Word) → is_blank x ≡ false → is_blank c ≡ false → words_with x (c ∷ cs) ws ≡ with_letter x ws
 letter_joins x c cs ws e f = rw e (rw f refl)
 
-leading_letter : (b : ℕ) (xs : List ℕ) → is_blank (line_byte b xs) ≡ false → leading_word (b ∷ xs) ≡ b ∷ leading_word xs
+pub leading_letter : (b : ℕ) (xs : List ℕ) → is_blank (line_byte b xs) ≡ false → leading_word (b ∷ xs) ≡ b ∷ leading_word xs
 leading_letter b xs e = rw e refl
 
-behind_letter : (b : ℕ) (xs : List ℕ) → is_blank (line_byte b xs) ≡ false → behind_word (b ∷ xs) ≡ behind_word xs
+pub behind_letter : (b : ℕ) (xs : List ℕ) → is_blank (line_byte b xs) ≡ false → behind_word (b ∷ xs) ≡ behind_word xs
 behind_letter b xs e = rw e refl
 
 leading_blank : (c : ℕ) (cs : List ℕ) → is_blank (line_byte c cs) ≡ true → leading_word (c ∷ cs) ≡ []
 leading_blank c cs e = rw e refl
 
-behind_blank : (c : ℕ) (cs : List ℕ) → is_blank (line_byte c cs) ≡ true → behind_word (c ∷ cs) ≡ c ∷ cs
+pub behind_blank : (c : ℕ) (cs : List ℕ) → is_blank (line_byte c cs) ≡ true → behind_word (c ∷ cs) ≡ c ∷ cs
 behind_blank c cs e = rw e refl
 
 letter_stays : (b : ℕ) (bs : List ℕ) → is_blank (line_byte b bs) ≡ false → behind_blanks (b ∷ bs) ≡ b ∷ bs
@@ -59,7 +59,7 @@ blank_passed b bs e = rw e refl
 split_letter : (b : ℕ) (xs : List ℕ) → is_blank (line_byte b xs) ≡ false → (b ∷ leading_word xs) ∷ line_of (behind_word xs) ≡ split_first (b ∷ xs)
 split_letter b xs e = grind (arith, common_steps, behind_letter, leading_letter)
 
-first_word : (b : ℕ) (bs : List ℕ) → is_blank (line_byte b bs) ≡ false → line_of (b ∷ bs) ≡ split_first (b ∷ bs)
+pub first_word : (b : ℕ) (bs : List ℕ) → is_blank (line_byte b bs) ≡ false → line_of (b ∷ bs) ≡ split_first (b ∷ bs)
 first_word b [] e = letter_last (line_byte b []) e ∙ ap (λ x. (x ∷ []) ∷ []) (byte_stays b [] e) ∙ split_letter b [] e
 first_word b (c ∷ cs) e = ⊎_elim (search (rules, letter_alone, byte_stays, leading_blank, behind_blank, split_letter))
     (λ (f : is_blank (line_byte c cs) ≡ false). letter_joins (line_byte b (c ∷ cs)) (line_byte c cs) (blank_returns cs) (line_of (c ∷ cs)) e f
@@ -75,7 +75,7 @@ heads : (x : List ℕ) (n : Word) (ws : List Word) → split_first x ≡ n ∷ w
 heads [] n ws e = absurd (cc)
 heads (b ∷ bs) n ws e = cc
 
-head_word : (x : List ℕ) (n : Word) (ws : List Word) → split_first x ≡ n ∷ ws → leading_word x ≡ n
+pub head_word : (x : List ℕ) (n : Word) (ws : List Word) → split_first x ≡ n ∷ ws → leading_word x ≡ n
 head_word [] n ws e = absurd (cc)
 head_word (b ∷ bs) n ws e = cc
 

@@ -12,3 +12,6 @@ pub mod FileLines
 pub mod RoundedWords
 pub mod RoundedFiles
 pub mod Headers
+pub mod Layouts
+pub mod MendedLines
+pub mod MendedTexts

@@ -22,7 +22,7 @@ use Rattle.rounding.proofs.RoundedWords.{stays_or_word, lines_words}
 -- ---- lines as a text has them
 
 -- no line has an LF in it, and the last one alone may have none behind it, if it has bytes
-abbrev AreLines : List RawLine → Type 0
+abbrev pub AreLines : List RawLine → Type 0
 AreLines [] = Unit {0}
 AreLines (l ∷ ls) = (has_line_end l.bytes ≡ false) × (l.ended ≡ false → (ls ≡ []) × (0 < length l.bytes)) × AreLines ls
 
@@ -30,7 +30,7 @@ with_byte_lines : (b : ℕ) (ls : List RawLine) → eqb b 10 ≡ false → AreLi
 with_byte_lines b [] e h = (or_from (eqb b 10) false e refl, (λ (u : false ≡ false). (refl, omega arith)), tt)
 with_byte_lines b (l ∷ ls) e h = (or_from (eqb b 10) (has_line_end l.bytes) e h.0, (λ (u : l.ended ≡ false). ((h.1 u).0, omega arith)), h.2)
 
-raw_are_lines : (t : List ℕ) → AreLines (raw_lines t)
+pub raw_are_lines : (t : List ℕ) → AreLines (raw_lines t)
 raw_are_lines [] = tt
 raw_are_lines (b ∷ bs) = ⊎_elim
     (λ (e : eqb b 10 ≡ true). subst AreLines (sym (ap (λ v. if v then record { bytes = []; ended = true } ∷ raw_lines bs else with_byte b (raw_lines bs)) e))
@@ -55,7 +55,7 @@ raw_last (b ∷ c ∷ cs) h some =
     let parts : (eqb b 10 ≡ false) × (has_line_end (c ∷ cs) ≡ false) = or_parts (eqb b 10) (has_line_end (c ∷ cs)) h in
     raw_byte b (c ∷ cs) parts.0 ∙ ap (with_byte b) (raw_last (c ∷ cs) parts.1 (omega arith))
 
-lines_of_text : (ls : List RawLine) → AreLines ls → raw_lines (lines_text ls) ≡ ls
+pub lines_of_text : (ls : List RawLine) → AreLines ls → raw_lines (lines_text ls) ≡ ls
 lines_of_text [] h = refl
 lines_of_text (l ∷ ls) h = grind (arith, common_steps, raw_ended, raw_last, append-nil, (lines_of_text ls h.2), cases_Bool)
 
@@ -65,7 +65,7 @@ letters_no_end : (w : Word) → AllByRecursion IsLetter w → has_line_end w ≡
 letters_no_end [] h = refl
 letters_no_end (b ∷ bs) h = or_from (eqb b 10) (has_line_end bs) h.0.line.feed (letters_no_end bs h.1)
 
-three : (xs ys zs : List ℕ) → has_line_end (xs ++ ys ++ zs) ≡ ((has_line_end xs || has_line_end ys) || has_line_end zs)
+pub three : (xs ys zs : List ℕ) → has_line_end (xs ++ ys ++ zs) ≡ ((has_line_end xs || has_line_end ys) || has_line_end zs)
 three xs ys zs = list_any-append (λ b. eqb b 10) (xs ++ ys) zs ∙ ap (λ v. v || has_line_end zs) (list_any-append (λ b. eqb b 10) xs ys)
 
 with_word : (xs ws ys r : List ℕ) → has_line_end (xs ++ ws ++ ys) ≡ false → has_line_end r ≡ false → has_line_end (xs ++ r ++ ys) ≡ false

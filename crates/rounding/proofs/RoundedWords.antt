@@ -35,20 +35,20 @@ word_byte b bs z e = byte_same b (leading_word bs ++ z) bs (word_end bs z e)
 -- ---- other bytes behind a run
 
 -- whether a word begins at the start, or nothing is there
-abbrev begins_here : List ℕ → Bool
+abbrev pub begins_here : List ℕ → Bool
 begins_here [] = true
 begins_here (b ∷ bs) = not (is_blank (line_byte b bs))
 
 -- whether no byte at the start is of a word
-abbrev ends_here : List ℕ → Bool
+abbrev pub ends_here : List ℕ → Bool
 ends_here [] = true
 ends_here (b ∷ bs) = is_blank (line_byte b bs)
 
-behind_blanks_begins : (l : List ℕ) → begins_here (behind_blanks l) ≡ true
+pub behind_blanks_begins : (l : List ℕ) → begins_here (behind_blanks l) ≡ true
 behind_blanks_begins [] = refl
 behind_blanks_begins (b ∷ bs) = grind (arith, common_steps, (behind_blanks_begins bs))
 
-behind_word_ends : (l : List ℕ) → ends_here (behind_word l) ≡ true
+pub behind_word_ends : (l : List ℕ) → ends_here (behind_word l) ≡ true
 behind_word_ends [] = refl
 behind_word_ends (b ∷ bs) = grind (arith, common_steps, (behind_word_ends bs))
 
@@ -56,11 +56,11 @@ begun : (z : List ℕ) → begins_here z ≡ true → behind_blanks z ≡ z
 begun [] w = refl
 begun (b ∷ bs) w = grind (arith, common_steps)
 
-ended : (z : List ℕ) → ends_here z ≡ true → (leading_word z ≡ []) × (behind_word z ≡ z)
+pub ended : (z : List ℕ) → ends_here z ≡ true → (leading_word z ≡ []) × (behind_word z ≡ z)
 ended [] w = (refl, refl)
 ended (b ∷ bs) w = grind (arith, common_steps)
 
-blanks_other : (l z : List ℕ) → line_ends z ≡ line_ends (behind_blanks l) → begins_here z ≡ true → behind_blanks (blanks l ++ z) ≡ z
+pub blanks_other : (l z : List ℕ) → line_ends z ≡ line_ends (behind_blanks l) → begins_here z ≡ true → behind_blanks (blanks l ++ z) ≡ z
 blanks_other [] z e w = begun z w
 blanks_other (b ∷ bs) z e w = grind (arith, common_steps, blank_byte, begun, (blanks_other bs z))
 
@@ -83,7 +83,7 @@ word_begins (b ∷ bs) z some w e = grind (arith, common_steps, word_byte)
 letter_stays : (b : ℕ) (bs : List ℕ) → IsLetter b → line_byte b bs ≡ b
 letter_stays b bs h = ap (λ v. if v && line_ends bs then 32 else b) h.line.return
 
-letters_lead : (r t : List ℕ) → AllByRecursion IsLetter r → ends_here t ≡ true → (leading_word (r ++ t) ≡ r) × (behind_word (r ++ t) ≡ t)
+pub letters_lead : (r t : List ℕ) → AllByRecursion IsLetter r → ends_here t ≡ true → (leading_word (r ++ t) ≡ r) × (behind_word (r ++ t) ≡ t)
 letters_lead [] t h e = ended t e
 letters_lead (b ∷ bs) t h e =
     let is : is_blank (line_byte b (bs ++ t)) ≡ false = ap is_blank (letter_stays b (bs ++ t) h.0) ∙ h.0.blank in

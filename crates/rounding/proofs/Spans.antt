@@ -31,6 +31,9 @@ word_both (b ∷ bs) = grind (arith, common_steps, (word_both bs))
 pub blanks_dropped : (l : List ℕ) → drop (length (blanks l)) l ≡ behind_blanks l
 blanks_dropped l = front_rest l (blanks l) (behind_blanks l) (sym (blanks_both l))
 
+pub blanks_taken : (l : List ℕ) → take (length (blanks l)) l ≡ blanks l
+blanks_taken l = sym (ap (take (length (blanks l))) (blanks_both l)) ∙ take-append_seam (blanks l) (behind_blanks l)
+
 pub word_dropped : (l : List ℕ) → drop (length (leading_word l)) l ≡ behind_word l
 word_dropped l = front_rest l (leading_word l) (behind_word l) (sym (word_both l))
 

@@ -3,6 +3,7 @@ pub mod Decimals
 pub mod Nearest
 pub mod Replacements
 pub mod Texts
+pub mod Layouts
 pub mod Multiplied
 pub mod Views
 pub mod Pieces

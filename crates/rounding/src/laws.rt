@@ -1,6 +1,6 @@
 //! Laws of the definitions. They say what rounding means over whole numbers, and which texts it leaves as they are.
 
-ghost use Rattle.std.specs.Prelude.{◌≡◌, ◌⊎◌, ◌*◌, ◌^◌, ◌<◌, ◌≤◌, ◌∷◌, ◌++◌, ℕ, List, [], true, None};
+ghost use Rattle.std.specs.Prelude.{◌≡◌, ◌⊎◌, ◌*◌, ◌^◌, ◌<◌, ◌≤◌, ◌∷◌, ◌++◌, ℕ, List, [], true, false, None};
 ghost use Rattle.bid_file.specs.Files.{PlainFile, IsPlainFile};
 ghost use Rattle.bid_file.specs.declared.limits.TheConstants.{MAX_PRICE};
 ghost use Rattle.cats_text.specs.Faults.{price_word};
@@ -8,6 +8,7 @@ ghost use Rattle.cats_text.specs.Grammar.{Spells, SpellsPrice};
 ghost use Rattle.cats_text.specs.Layout.{price_text};
 ghost use Rattle.cats_text.specs.Lines.{Word, line_words, blank_returns};
 ghost use Rattle.rounding.specs.Decimals.{is_decimal, top, bottom, exact_top, exact_bottom};
+ghost use Rattle.rounding.specs.Layouts.{has_mends, mended_places, mended_text};
 ghost use Rattle.rounding.specs.Nearest.{IsNearest, nearest};
 ghost use Rattle.rounding.specs.Replacements.{replacement, replacement_of};
 ghost use Rattle.rounding.specs.Texts.{before_second, second_word, behind_second, rounded_text, rounded_prices};
@@ -80,4 +81,20 @@ pub fn bid_files_multiply()
         → g ≡ times_file (10 ^ rule.tens) f }
     ensures spells { (rule : PriceRule) (text : List ℕ) (f : PlainFile) → Spells text f
         → IsPlainFile (times_file (10 ^ rule.tens) f) → Spells (rounded_text rule text) (times_file (10 ^ rule.tens) f) }
+{}
+
+/// A text in which nothing has to be mended has no mends, and stays byte for byte.
+pub fn unmended_texts_stay()
+    ensures mends { (text : List ℕ) → has_mends text ≡ false → mended_places text ≡ [] }
+    ensures text { (text : List ℕ) → mended_places text ≡ [] → mended_text text ≡ text }
+{}
+
+/// A text that was mended has nothing to mend.
+pub fn mended_once()
+    ensures { (text : List ℕ) → mended_places (mended_text text) ≡ [] }
+{}
+
+/// A bid file has nothing to mend, so it stays byte for byte.
+pub fn bid_files_have_no_mends()
+    ensures { (text : List ℕ) (f : PlainFile) → Spells text f → mended_places text ≡ [] }
 {}

@@ -5,7 +5,9 @@
 mod decimal;
 mod digits;
 pub mod laws;
+pub mod layout;
 mod line;
+pub mod mend;
 pub mod replacement;
 pub mod rounder;
 pub mod text;

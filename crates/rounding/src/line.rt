@@ -12,7 +12,7 @@ fn line_ends(bytes: &[u8]) -> bool
 }
 
 /// Whether the byte at an offset is a blank: a space, a tab, or a CR that ends the line.
-fn is_blank(line: &[u8], offset: usize) -> bool
+pub fn is_blank(line: &[u8], offset: usize) -> bool
     requires { offset < length line.now }
     ensures { result ≡ is_blank (line_byte (slice_index line.now offset) (drop (suc offset) line.now)) }
 {
@@ -21,7 +21,7 @@ fn is_blank(line: &[u8], offset: usize) -> bool
 }
 
 /// How many blanks are at the beginning.
-fn count_blanks(line: &[u8]) -> usize
+pub fn count_blanks(line: &[u8]) -> usize
     ensures count { result ≡ length (blanks line.now) }
     ensures within { result ≤ length line.now }
 {
@@ -44,6 +44,20 @@ fn word_length(line: &[u8]) -> usize
         }
     }
     line.len()
+}
+
+/// A line behind the blanks at its beginning.
+pub fn from_first(line: &[u8]) -> &[u8]
+    ensures { result.now ≡ behind_blanks line.now }
+{
+    &line[count_blanks(line)..]
+}
+
+/// A line behind its first word.
+pub fn behind_first(line: &[u8]) -> &[u8]
+    ensures { result.now ≡ behind_word (behind_blanks line.now) }
+{
+    split_word(from_first(line)).1
 }
 
 /// Whether a line is neither empty nor a comment.

@@ -44,7 +44,7 @@ pub struct RoundedText {
 }
 
 /// Significant lines before the first bid line.
-const HEADER_LINES: usize = 3;
+pub(crate) const HEADER_LINES: usize = 3;
 
 /// Appends what is written in place of a word.
 fn push_replacement(

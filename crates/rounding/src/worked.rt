@@ -5,9 +5,11 @@ ghost use Rattle.cats_text.specs.Faults.{first_fault, fault_at};
 ghost use Rattle.cats_text.specs.declared.read_fault.Kind.TheVariants.{TooLarge as IsTooLarge, TooFine as IsTooFine};
 ghost use Rattle.cats_text.specs.declared.read_fault.Kind.TheVariants.{NotANumber};
 ghost use Rattle.rounding.specs.Decimals.{is_decimal, top, bottom};
+ghost use Rattle.rounding.specs.Layouts.{line_in_file, mended_places, mended_text};
 ghost use Rattle.rounding.specs.Nearest.{nearest};
 ghost use Rattle.rounding.specs.Replacements.{price_rule, replacement, rounded_word};
 ghost use Rattle.rounding.specs.Texts.{rounded_text, rounded_prices};
+ghost use Rattle.rounding.specs.declared.layout.Mend.TheVariants.{Dummy, Keyword, Comment, Remark};
 ghost use Rattle.rounding.specs.declared.replacement.FinePrices.TheVariants.{Round, Refuse};
 ghost use Rattle.rounding.specs.declared.replacement.Replacement.TheVariants.{Itself, Exact, Rounded, TooLarge, TooFine};
 
@@ -114,4 +116,26 @@ pub fn faults()
     ensures none { first_fault (rounded_text (price_rule Round 0) (codes "goods 1\nbids 1\ndummy 0\n0 1e-7 0 #\n")) ≡ None }
     ensures no_decimal { first_fault (rounded_text (price_rule Round 0) (codes "goods 1\nbids 1\ndummy 0\n0 1,5 0 #\n"))
         ≡ Some (fault_at 4 NotANumber) }
+{}
+
+/// Texts in layouts of other publishers, and texts that stay as they are.
+pub fn layouts()
+    ensures text { mended_text (codes "# two bids\nGoods: 2\r\nBIDS 2\n0 3 0 #\tnorth\n  #\n1 1e1 1 #\n")
+        ≡ codes "% two bids\ngoods 2\r\nbids 2\ndummy 0\n0 3 0 #\n  %\n1 1e1 1 #\n" }
+    ensures mends { mended_places (codes "# two bids\nGoods: 2\r\nBIDS 2\n0 3 0 #\tnorth\n  #\n1 1e1 1 #\n")
+        ≡ record { line = 1; mend = Comment } ∷ record { line = 2; mend = Keyword } ∷ record { line = 3; mend = Keyword }
+        ∷ record { line = 4; mend = Dummy } ∷ record { line = 4; mend = Remark } ∷ record { line = 5; mend = Comment } ∷ [] }
+    ensures remarks { map mended_text (codes "goods 1\nbids 1\nDUMMY: 0\n0 5 0 # # north" ∷ codes "a\nb\nc\n d # e 0" ∷ [])
+        ≡ codes "goods 1\nbids 1\ndummy 0\n0 5 0 #" ∷ codes "a\nb\nc\n d #" ∷ [] }
+    ensures kept { map mended_places (codes "goods:2\n" ∷ codes "goods :2\n" ∷ codes "goods 2 # two\n" ∷ codes "bids: 2\n"
+        ∷ codes "goods 1\nbids 0\n" ∷ codes "goods 1\nbids 1\ndummy 0\n0 5 0 # 1 6 0 #\n" ∷ codes ""
+        ∷ codes "goods 1\nbids 1\ndummy 0\n0 5 0#north\n" ∷ codes "goods 1\nbids 1\n-1 5 0 #\n" ∷ [])
+        ≡ [] ∷ [] ∷ [] ∷ [] ∷ [] ∷ [] ∷ [] ∷ [] ∷ [] ∷ [] }
+{}
+
+/// Lines of a mended text in which `dummy 0` was put in before the line 4, and of one that has all lines as they were.
+pub fn lines_of_files()
+    ensures put_in { map (line_in_file (record { line = 2; mend = Keyword } ∷ record { line = 4; mend = Dummy } ∷ []))
+        (0 ∷ 3 ∷ 4 ∷ 5 ∷ 6 ∷ []) ≡ 0 ∷ 3 ∷ 4 ∷ 4 ∷ 5 ∷ [] }
+    ensures same { map (line_in_file (record { line = 2; mend = Keyword } ∷ [])) (0 ∷ 3 ∷ 4 ∷ []) ≡ 0 ∷ 3 ∷ 4 ∷ [] }
 {}

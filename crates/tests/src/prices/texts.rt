@@ -3,6 +3,8 @@
 use crate::prices::{REFUSED, ROUNDED, multiplied};
 use cats_text::Kind::TooFine;
 use cats_text::ReadFault;
+use rounding::layout::{Mend, MendedLine};
+use rounding::mend::{line_in_file, mend};
 use rounding::replacement::FinePrices;
 use rounding::rounder::Rounder;
 use rounding::text::{RoundedText, round, round_prices};
@@ -90,5 +92,55 @@ fn a_million_times_the_prices(rt: HostRuntime) -> Result<(), Fail> {
     let rounded = round_prices(rt.alloc(), SMALL, multiplied(FinePrices::Round, 6))?;
     let word = b"1.0000000000006";
     assert_rounded(&rt, &rounded, MILLIONS, 6, (1_000_000_000_001, word));
+    Ok(())
+}
+
+/// A text in the layout of another publisher, what it becomes, and its mends.
+static OTHER: &[u8] =
+    b"# one\n\tGoods:\t2\r\nBids 2\n0 1e0 0 # a # 7\n\t#\n1 2 1\t#\tb\r\n2 3 0 # 4 #";
+
+static MENDED: &[u8] =
+    b"% one\n\tgoods\t2\r\nbids 2\ndummy 0\n0 1e0 0 #\n\t%\n1 2 1\t#\n2 3 0 # 4 #";
+
+static MENDS: &[MendedLine] = &[
+    MendedLine {
+        line: 1,
+        mend: Mend::Comment,
+    },
+    MendedLine {
+        line: 2,
+        mend: Mend::Keyword,
+    },
+    MendedLine {
+        line: 3,
+        mend: Mend::Keyword,
+    },
+    MendedLine {
+        line: 4,
+        mend: Mend::Dummy,
+    },
+    MendedLine {
+        line: 4,
+        mend: Mend::Remark,
+    },
+    MendedLine {
+        line: 5,
+        mend: Mend::Comment,
+    },
+    MendedLine {
+        line: 6,
+        mend: Mend::Remark,
+    },
+];
+
+#[test]
+fn a_layout_of_another_publisher(rt: HostRuntime) -> Result<(), Fail> {
+    let mended = mend(rt.alloc(), Vec::from_slice(rt.alloc(), OTHER)?)?;
+    assert!(rt; mended.text.as_slice() == MENDED);
+    assert!(rt; mended.mends.as_slice() == MENDS);
+    assert_eq!(rt; line_in_file(mended.mends.as_slice(), 4), 4);
+    assert_eq!(rt; line_in_file(mended.mends.as_slice(), 8), 7);
+    let again = mend(rt.alloc(), mended.text)?;
+    assert!(rt; again.mends.is_empty() && again.text.as_slice() == MENDED);
     Ok(())
 }
