@@ -64,7 +64,7 @@ enum cats_status {
 // How a text is read, or each of several. Any other number is as CATS_ROUNDED_EXACTLY.
 enum cats_prices {
     CATS_AS_WRITTEN = 0,     // as it is: a price such as 1e3 is a fault
-    CATS_ROUNDED = 1,        // as CATS_ROUND writes it: `--round` of the program
+    CATS_ROUNDED = 1,        // prices as CATS_ROUND has them: `--round` of the program
     CATS_ROUNDED_EXACTLY = 2 // the same, but refused if the value of a price would change: `--round-exact`, and `--exact` of CATS_ROUND
 };
 
@@ -196,7 +196,8 @@ static inline uint8_t cats_explain(struct cats_text text, struct cats_buffer *ou
     return cats_run_usual(CATS_EXPLAIN, &text, 1, out, err);
 }
 
-// Writes a text with each price that is a decimal rounded to the nearest millionth, and into `err` a line for each price whose value changed.
+// Writes a text, mended, with each price that is a decimal rounded to the nearest millionth, and into `err` a line for each mend, and for each
+// price whose value changed.
 // If `exact`, a text with such a price is refused.
 static inline uint8_t cats_round(struct cats_text text, bool exact, struct cats_buffer *out, struct cats_buffer *err) {
     struct cats_request request = cats_request_of(CATS_ROUND);

@@ -38,7 +38,8 @@ def wanted_of(case):
         return Answer(Status.DONE, b"".join(line.rpartition(b"\t")[0] + b"\t\n" for line in out.split(b"\n")[1:-1]))
     if status > Status.DIFFERENT:
         return Answer(status, b"", err.splitlines(True)[-1])
-    return Answer(status, out, err if case.call.name == "round" else b"")
+    changes = [line for line in err.splitlines(True) if b" rounded to " in line]
+    return Answer(status, out, b"".join(changes) if case.call.name == "round" else b"")
 
 
 def function_of(call):

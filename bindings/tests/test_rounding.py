@@ -1,4 +1,5 @@
-"""With `round` a call is that on the text that `round_prices` answers, of each function. Beside the program it is tried in test_answers.py."""
+"""With `round` a call is that on the text that `round_prices` answers, of each function, but that it mends nothing. Beside the program it is
+tried in test_answers.py."""
 import pytest
 from functions import OF_PAIRS, OF_TEXT
 from texts import BIDS
@@ -39,3 +40,24 @@ def test_the_first_text_is_searched_before_the_second_is_rounded():
     for call in OF_PAIRS:
         with pytest.raises(yinchaku.StepLimit):
             call(BIDS, b"no file", 0, round=True)
+
+
+# In the layout of another publisher: a keyword with a colon, and no line `dummy`.
+OTHER = BIDS.replace(b"goods ", b"Goods: ").replace(b"dummy 0\n", b"").replace(b" 3 ", b" 3e0 ").replace(b" 4 ", b" 4.0000004 ")
+
+
+def test_only_round_prices_mends():
+    rounded = yinchaku.round_prices(OTHER)
+    assert (rounded.text, rounded.changes) == (BIDS, [yinchaku.Change(4, "4.0000004", "4")])
+    for call in (yinchaku.check, yinchaku.read):
+        with pytest.raises(yinchaku.RefusedText) as refused:
+            call(OTHER, round=True)
+        assert (refused.value.line, refused.value.kind, refused.value.column) == (1, "Header", 1)
+
+
+def test_faults_of_mended_texts():
+    """They have the line of the text, and no place in that if it has another fault before."""
+    for text, line, column in ((OTHER.replace(b"4.0", b"x"), 4, None), (BIDS.replace(b" 4 ", b" x "), 5, 3)):
+        with pytest.raises(yinchaku.RefusedText) as refused:
+            yinchaku.round_prices(text)
+        assert (refused.value.line, refused.value.kind, refused.value.column) == (line, "NotANumber", column)

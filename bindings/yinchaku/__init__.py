@@ -10,8 +10,8 @@ Sizes(goods=3, bids=2, dummies=1)
 
 All searches are bounded, as those of the program with `--bound`. `steps` is the most steps of one search, and `total` those of all searches
 of one text together, if it is not None. Both are as in the program if they are not given: `total` is TOTAL of `explain`, `diff`, `duplicates`,
-`sizes`, `publish` and `winners`, and None of the others. With `round` a text is read as `round_prices` prints it, and with `round="exact"` it
-is refused if that would change the value of a price.
+`sizes`, `publish` and `winners`, and None of the others. With `round` a text is read with its prices as `round_prices` has them, and with `round="exact"`
+it is refused if that would change the value of a price.
 
 The library is looked for in the folder of this package (`libcats.so`), then in the folder that holds the package (`libcats.so`,
 `libcats.so.2`), and then where the system looks for libraries (`libcats.so.2`, `libcats.so`).

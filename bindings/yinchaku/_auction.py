@@ -35,10 +35,10 @@ class Auction(HasText):
         """Reads a text, or the file at a path. RefusedText: it is not a bid file."""
         prices = prices_of(round)
         self._path, self._text, changed = path_given(text), bytes_of(text), b""
+        self._sizes = check(self, round=round)  # before the next line, as that mends what is refused here
         if prices != Prices.AS_WRITTEN:
             self._text, changed = outputs_on(Task.ROUND, [self], prices)
         self._changes = changes_of(changed)
-        self._sizes = check(self)
         self._bids: Optional[Rows[Bid]] = None
 
     @classmethod

@@ -89,7 +89,7 @@ def normalise(text: TextOrPath, steps: int = STEPS, *, total: Optional[int] = No
     ...     print(limit.bundle)
     (1,)
 
-    With `round` the text is read as `round_prices` prints it; with `"exact"` it is refused if a price's value would change:
+    With `round` the text is read with the prices that `round_prices` prints; with `"exact"` it is refused if a price's value would change:
 
     >>> normalise(b"goods 1\\nbids 1\\ndummy 0\\n0 1e3 0 #\\n", round="exact")
     b'goods 1\\nbids 1\\ndummy 0\\n0\\t1000\\t0\\t#\\n'
@@ -133,8 +133,8 @@ def lp(text: TextOrPath, *, round: Rounding = False) -> bytes:
 
 
 def round_prices(text: TextOrPath, exact: bool = False) -> Rounded:
-    """The text with each price rounded to the nearest millionth, ties to even, and the prices whose values changed. If `exact`, a text with
-    such a price is refused.
+    """The text, mended as `cats round` does it, with each price rounded to the nearest millionth, ties to even, and the prices whose values
+    changed. If `exact`, a text with such a price is refused.
 
     >>> found = round_prices(b"goods 1\\nbids 2\\ndummy 0\\n0 1e3 0 #\\n1 0.0123456 0 #\\n")
     >>> found.text

@@ -7,7 +7,7 @@ from yinchaku._library import Prices, Status, Task, call
 from yinchaku.errors import NO_PLACE, Place, error_of
 
 # What is printed of a fault in a text without a name: its line and column, its kind and its word, and what helps.
-PLACE = re.compile(rb"1:(\d+):(\d+): .*\n(.*)\n")
+PLACE = re.compile(rb"1:(\d+):(\d+): (\w+).*\n(.*)\n")
 
 # A word of a line, between spaces and tabs.
 WORD = re.compile(rb"[^ \t]+")
@@ -16,18 +16,20 @@ WORD = re.compile(rb"[^ \t]+")
 PROGRAM, PACKAGE = "`--round`", "`round=True`"
 
 
-def place_in(text: bytes, prices: Prices) -> Place:
-    """The place of the first fault of a text that is read so. One that is longer than is read has none."""
+def place_in(text: bytes, line: int, kind: str, prices: Prices) -> Place:
+    """The place of the first fault of a text that is read so, of this kind and on this line. One that is longer than is read has none, nor has
+    another fault than that, which is of the text that `round_prices` mended.
+    """
     status, out, _ = call(Task.FAULT, [text], prices)
     if status == Status.WANT_OF_MEMORY:
         raise error_of(status, b"")
     found = PLACE.fullmatch(out)
-    if not found:
+    if not found or (int(found[1]), found[3].decode("ascii")) != (line, kind):
         return NO_PLACE
-    line, column = line_of(text, int(found[1])), int(found[2])
-    word = WORD.match(line, column - 1)
-    hint = found[3].decode("ascii").replace(PROGRAM, PACKAGE)
-    return Place(column, len(WORD.findall(line, 0, column - 1)) + 1, word[0] if word else b"", hint)
+    content, column = line_of(text, line), int(found[2])
+    word = WORD.match(content, column - 1)
+    hint = found[4].decode("ascii").replace(PROGRAM, PACKAGE)
+    return Place(column, len(WORD.findall(content, 0, column - 1)) + 1, word[0] if word else b"", hint)
 
 
 def line_of(text: bytes, number: int) -> bytes:

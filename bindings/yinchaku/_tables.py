@@ -91,7 +91,7 @@ class Change(NamedTuple):
 
 
 class Rounded(NamedTuple):
-    """A text with its prices rounded, and the prices whose values changed."""
+    """A text, mended and with its prices rounded, and the prices whose values changed."""
 
     text: bytes
     changes: Rows[Change]
@@ -215,8 +215,8 @@ def difference_of(line: bytes) -> Difference:
 
 
 def changes_of(printed: bytes) -> Rows[Change]:
-    """For each price whose value changed, `line L: WORD rounded to PRICE`."""
-    return Rows(printed.splitlines(), change_of, Change._fields)
+    """For each price whose value changed, `line L: WORD rounded to PRICE`. Lines on mends, which come before these, are left out."""
+    return Rows([line for line in printed.splitlines() if b" rounded to " in line], change_of, Change._fields)
 
 
 def change_of(line: bytes) -> Change:

@@ -115,7 +115,7 @@ def outputs_on(
         if fault.which or len(given) == 1:
             fault.path = path_given(given[at])
         if isinstance(fault, RefusedText):
-            fault._find = finder(texts[at], fault.line, prices)
+            fault._find = finder(texts[at], fault, prices)
         raise
 
 
@@ -129,9 +129,9 @@ def last_line(printed: bytes) -> bytes:
     return printed[:-1].rpartition(b"\n")[2]
 
 
-def finder(text: bytes, line: Optional[int], prices: Prices) -> Optional[Callable[[], Place]]:
-    """What finds the place of the first fault of a text that is read so, which is on this line. Without a line it has none."""
-    return None if line is None else partial(place_in, text, prices)
+def finder(text: bytes, fault: RefusedText, prices: Prices) -> Optional[Callable[[], Place]]:
+    """What finds the place of this fault of a text that is read so. Without a line it has none."""
+    return None if fault.line is None else partial(place_in, text, fault.line, fault.kind, prices)
 
 
 def numbers_of(bits: int, lacking: Callable[[int], CatsError], numbers: Iterable[int]) -> List[int]:

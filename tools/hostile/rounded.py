@@ -67,7 +67,7 @@ def judge_text(command, flags, text):
 
 
 def texts():
-    """Texts of many forms: with valid prices alone, with exponents, with finer places, with faults, and cut off."""
+    """Texts of many forms, in which nothing is mended: with valid prices alone, with exponents, with finer places, with faults, and cut off."""
     choose = random.Random(7)
     taken = [word for word, rounded, _ in ROWS if not price_of(word, False).fault and "\r" not in word]
     exact = [word for word in taken if not price_of(word, True).fault]

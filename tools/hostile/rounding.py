@@ -401,6 +401,37 @@ OTHER_TEXTS = [
 ]
 
 
+# Texts in layouts of other publishers, with the rounded text and the reports; and texts that are none of them, with a line.
+MENDED_TEXTS = [
+    ("goods 2\nbids 1\n0 1e6 0 #\n", "goods 2\nbids 1\ndummy 0\n0 1000000 0 #\n", "line 3: dummy 0 put in before it\n"),
+    ("%\ngoods 1\nbids 0\n", "line 4: Missing", ""),
+    ("goods 1\nbids 2\n0 5 0 #\n1 6 1 #\n", "line 4: GoodRange", ""),
+    ("GOODS: 2\nBids: 1\nDummy 0\n0 5 0 #", "goods 2\nbids 1\ndummy 0\n0 5 0 #",
+     "line 1: keyword respelled\nline 2: keyword respelled\nline 3: keyword respelled\n"),
+    ("\tgOoDs\t2\r\nbids: 1\r\n\r\n 0 1e-7 1 #\r\n", "\tgoods\t2\r\nbids 1\r\n\r\ndummy 0\n 0 0 1 #\r\n",
+     "line 1: keyword respelled\nline 2: keyword respelled\nline 4: dummy 0 put in before it\nline 4: 1e-7 rounded to 0\n"),
+    ("goods:2\n", "line 1: Header", ""),
+    ("goods :2\n", "line 1: Header", ""),
+    ("goods 2 # two\n", "line 1: Header", ""),
+    ("bids: 1\ngoods: 2\n", "line 1: Header", ""),
+    ("#\n # x # y\n" + HEADER + "0 5 0 #\n\t#1 1e6\n1 6 1 #\n", "%\n % x # y\n" + HEADER + "0 5 0 #\n\t%1 1e6\n1 6 1 #\n",
+     "line 1: comment with % for #\nline 2: comment with % for #\nline 7: comment with % for #\n"),
+    (HEADER + "0 5 0 # north\r\n1 6 1\t#\t# 7", HEADER + "0 5 0 #\n1 6 1\t#", "line 4: remark behind # cut\nline 5: remark behind # cut\n"),
+    (HEADER + "0 5 0 # 1 6 1 #\n", "line 4: AfterEnd", ""),
+    (HEADER + "0 5 0 #north\n1 6 1 #\n", "line 4: NotANumber", ""),
+    (HEADER + "0 5 0# north\n1 6 1 #\n", "line 4: NotANumber", ""),
+]
+
+
+def check_mended_texts():
+    for text, printed, reports in MENDED_TEXTS:
+        is_line = printed.startswith("line ")
+        wanted = Answer(2, b"", latin(printed + "\n")) if is_line else Answer(0, latin(printed), latin(reports))
+        judge(f"round {text!r}", wanted, run(["round", "/dev/stdin"], latin(text)))
+        if not is_line:
+            judge(f"round {printed!r}", Answer(0, wanted.out, b""), run(["round", "/dev/stdin"], wanted.out))
+
+
 def check_other_texts():
     for text, printed in OTHER_TEXTS:
         is_line = printed.startswith("line ")
@@ -412,6 +443,7 @@ def check_other_texts():
 def main():
     check_rows()
     check_other_texts()
+    check_mended_texts()
     check_forms()
     check_long_words()
     check_powers()

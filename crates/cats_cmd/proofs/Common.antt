@@ -39,7 +39,7 @@ pub use Rattle.cats_cmd.specs.Internal.Gathering.{Gathers, GathersNext}
 pub use Rattle.cats_cmd.specs.Internal.Judging.{KeepsNumbers, AddsJudgement, AddsOpened, AddsRefused, KeepsGroups, AddsPath, HasJudged, JudgesAllAs}
 pub use Rattle.cats_cmd.specs.Internal.Judging.{AddsStream, AddsFile, BeginsRun, KeepsFaults, SendsNext, ShowsNext, StopsAtPath}
 pub use Rattle.cats_cmd.specs.Internal.Judging.{OpensAllAs, opening_of}
-pub use Rattle.cats_cmd.specs.Internal.Roundings.{RoundsText, judged_of}
+pub use Rattle.cats_cmd.specs.Internal.Roundings.{judged_of}
 pub use Rattle.cats_cmd.specs.Internal.Walking.{WalksBelow, StaysBelow}
 pub use Rattle.cats_cmd.specs.Openings.{status_of_run}
 pub use Rattle.cats_cmd.specs.Opening.{KeepsFiles, Opening, Opens, OpensEach, OpensFirst, in_way, openings_at, openings_found, openings_of, with_openings}
@@ -122,7 +122,6 @@ pub use Rattle.commands.specs.Value.{value_outcome}
 pub use Rattle.commands.specs.Outputs.{bundle_text, list_cell, number_cell, price_cell, after_commas}
 pub use Rattle.commands.specs.Pairs.{CommandsBy, CommandsOnBoth, CommandsBoth, GivesBoth, outcome_of_both}
 pub use Rattle.commands.specs.Pieces.{text_of_piece, text_of_pieces}
-pub use Rattle.commands.specs.Round.{rounded_line}
 pub use Rattle.commands.specs.Sizes.{cells, number_columns, numbers_judged}
 pub use Rattle.commands.specs.Statuses.{status_of_canon_fault, status_of_fault, status_of_read_fault}
 pub use Rattle.commands.specs.Value.{value_text}

@@ -1,5 +1,6 @@
--- What `cats round` does. It reads bytes, sends the text with their prices rounded, and reports.
-use Rattle.std.specs.Prelude.{◌≡◌, ◌⊎◌, ℕ, Bool, false, List, length, map, Option, Result, Ok, Err}
+-- What `cats round` does. It reads bytes, mends them, sends the text with its prices rounded, and reports.
+use Rattle.std.specs.Prelude.{◌≡◌, ◌⊎◌, ◌++◌, ◌||◌, ℕ, Bool, true, false, List, length, map, Option, Some, Result, Ok}
+use Rattle.std.specs.Prelude.{Err}
 use Rattle.bid_file.specs.Files.{PlainFile}
 use Rattle.cats_text.specs.Grammar.{Spells}
 use Rattle.cats_text.specs.declared.stream.Watched.{Watched}
@@ -7,48 +8,93 @@ use Rattle.canon.specs.declared.canon_fault.CanonFault.{CanonFault}
 use Rattle.canon.specs.declared.canon_fault.CanonFault.TheVariants.{Read, StepLimit, Memory}
 use Rattle.canon.specs.declared.which.Which.{Which}
 use Rattle.canon.specs.declared.which.Which.TheVariants.{Only}
+use Rattle.cats_text.specs.Faults.{first_fault}
+use Rattle.cats_text.specs.declared.read_fault.ReadFault.{ReadFault}
 use Rattle.rounding.specs.Answers.{WantsMemoryToRound}
-use Rattle.rounding.specs.Texts.{rounded_prices, rounded_text}
+use Rattle.rounding.specs.Layouts.{has_mends, line_in_file, mended_places, mended_text}
+use Rattle.rounding.specs.Texts.{PlainRoundedPrice, rounded_prices, rounded_text}
+use Rattle.rounding.specs.declared.layout.MendedLine.{MendedLine}
 use Rattle.rounding.specs.declared.replacement.PriceRule.{PriceRule}
-use Rattle.commands.specs.Round.{rounded_line}
+use Rattle.commands.specs.Round.{at_line, mend_line, rounded_line}
 use Rattle.cats_cmd.specs.Inputs.{ReadsAll, StopsReading, WantsMemoryForBytes}
-use Rattle.cats_cmd.specs.PricedInputs.{HasRoundedFault}
 use Rattle.commands.specs.Outcomes.{Outcome, Prints}
 use Rattle.cats_cmd.specs.Runs.{FailsInText, WritesText}
 use Rattle.cats_cmd.specs.Reports.{ReportsAll, is_lost, status_if_lost}
 use Rattle.commands.specs.declared.faults.RunFault.{RunFault}
 use Rattle.commands.specs.declared.faults.RunFault.TheVariants.{Refused, Sent}
 
--- the outcome of `cats round`, with status 5 if the report on prices is lost
+-- the text that becomes of the bytes of a file: mended, and then with its prices rounded
+abbrev pub result_text : PriceRule → List ℕ → List ℕ
+result_text rule bytes = rounded_text rule (mended_text bytes)
+
+-- the prices of the mended bytes that are rounded
+abbrev pub result_prices : PriceRule → List ℕ → List PlainRoundedPrice
+result_prices rule bytes = rounded_prices rule (mended_text bytes)
+
+-- the outcome of `cats round`, with status 5 if a report is lost
 abbrev pub round_outcome : PriceRule → Bool → List ℕ → Outcome
-round_outcome rule lost bytes = Prints (status_if_lost lost 0) (rounded_text rule bytes)
+round_outcome rule lost bytes = Prints (status_if_lost lost 0) (result_text rule bytes)
+
+-- the lines on mends
+abbrev pub mend_lines : List MendedLine → List (List ℕ)
+mend_lines mends = map mend_line mends
+
+-- the line on a rounded price of a mended text, with its line in the file
+abbrev pub price_line : List MendedLine → PlainRoundedPrice → List ℕ
+price_line mends change = rounded_line (at_line (line_in_file mends change.line) change)
+
+abbrev pub price_lines : List MendedLine → List PlainRoundedPrice → List (List ℕ)
+price_lines mends changes = map (price_line mends) changes
+
+-- what is reported of the bytes of a file: the mends, and then the prices whose values changed
+abbrev pub round_lines : PriceRule → List ℕ → List (List ℕ)
+round_lines rule bytes =
+    mend_lines (mended_places bytes) ++ price_lines (mended_places bytes) (result_prices rule bytes)
+
+-- a fault of a mended text, at its line in the file
+abbrev pub fault_in_file : List MendedLine → ReadFault → ReadFault
+fault_in_file mends fault = record { line = line_in_file mends fault.line; kind = fault.kind }
+
+-- some mend or some rounded price was reported, and standard error has failed behind the reports
+abbrev pub are_lost : {E : Type 0} → PriceRule → List ℕ → Watched E → Bool
+are_lost rule bytes err_after =
+    is_lost (length (mended_places bytes)) err_after || is_lost (length (result_prices rule bytes)) err_after
 
 -- ---- the run
 
 module _ {R W E : Type 0} (remaining : R → Option (List ℕ)) (contents : W → Option (List ℕ))
     (messages : E → Option (List ℕ)) (rule : PriceRule) where
-  -- the bytes that were read, with their prices rounded, spell a file
+  -- the bytes that were read, mended and with their prices rounded, spell a file
   pub record ReadsRoundable (old new : Watched R) (bytes : List ℕ) : Type 0 where
     pub all : ReadsAll remaining old new bytes
     pub file : PlainFile
-    pub spells : Spells (rounded_text rule bytes) file
+    pub spells : Spells (result_text rule bytes) file
 
-  -- and the prices whose values changed were reported
+  -- and what became of them was reported
   pub record ReadsAndReports (old new : Watched R) (err err_after : Watched E) (bytes : List ℕ) : Type 0 where
     pub reads : ReadsRoundable old new bytes
-    pub reports : ReportsAll messages (map rounded_line (rounded_prices rule bytes)) err err_after
+    pub reports : ReportsAll messages (round_lines rule bytes) err err_after
 
-  -- memory is refused to round the bytes that were read: a bid line has begun, or the rounded text spells a file
+  -- the first fault of what becomes of the bytes that were read, at its line in the file
+  pub record HasResultFault (old new : Watched R) (fault : ReadFault) : Type 0 where
+    pub bytes : List ℕ
+    pub all : ReadsAll remaining old new bytes
+    pub found : ReadFault
+    pub first : first_fault (result_text rule bytes) ≡ Some found
+    pub is : fault ≡ fault_in_file (mended_places bytes) found
+
+  -- Memory is refused to the bytes that were read: something in them has to be mended; or they are mended, and a bid
+  -- line has begun, or the rounded text spells a file.
   pub record WantsMemoryForRounding (old new : Watched R) : Type 0 where
     pub bytes : List ℕ
     pub all : ReadsAll remaining old new bytes
-    pub wants : WantsMemoryToRound rule bytes
+    pub wants : (has_mends bytes ≡ true) ⊎ WantsMemoryToRound rule (mended_text bytes)
 
-  -- Why the file was refused: the stream failed or was too long, or the rounded text has a fault, or memory was
-  -- refused, to the bytes as they came or to their rounding.
+  -- Why the file was refused: the stream failed or was too long, or what becomes of it has a fault, or memory was
+  -- refused, to the bytes as they came or to what becomes of them.
   abbrev pub IsUnrounded : Watched R → Watched R → CanonFault → Type 0
   IsUnrounded old new (Read fault) =
-      StopsReading remaining old new fault.line fault.kind ⊎ HasRoundedFault remaining rule old new fault
+      StopsReading remaining old new fault.line fault.kind ⊎ HasResultFault old new fault
   IsUnrounded old new (StepLimit goods) = ⊥
   IsUnrounded old new Memory = WantsMemoryForBytes remaining old new ⊎ WantsMemoryForRounding old new
 
@@ -71,7 +117,7 @@ module _ {R W E : Type 0} (remaining : R → Option (List ℕ)) (contents : W �
       → Type 0
   Rounds old new out out_after err err_after (Ok status) =
       WritesText contents (ReadsAndReports old new err err_after)
-      (λ bytes. round_outcome rule (is_lost (length (rounded_prices rule bytes)) err_after) bytes) out out_after status
+      (λ bytes. round_outcome rule (are_lost rule bytes err_after) bytes) out out_after status
   Rounds old new out out_after err err_after (Err (Refused which fault)) =
       RefusesRounding old new out out_after err err_after which fault
   Rounds old new out out_after err err_after (Err (Sent fault)) =

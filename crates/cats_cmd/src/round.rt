@@ -1,31 +1,40 @@
-//! `cats round`: a text with every price made valid.
+//! `cats round`: a text, mended, with every price made valid.
 
-ghost use Rattle.std.specs.Prelude.{◌≡◌, map, false};
+ghost use Rattle.std.specs.Prelude.{◌≡◌, ◌++◌, ◌||◌, false, length};
 ghost use Rattle.cats_text.specs.Streams.{has_ended, has_failed};
 ghost use Rattle.rounding.specs.Views.{plain_change, plain_changes};
-ghost use Rattle.commands.specs.Round.{rounded_line};
-ghost use Rattle.cats_cmd.specs.Rounding.{Rounds};
-ghost use Rattle.cats_cmd.specs.Internal.Roundings.{RoundsText};
-ghost use Rattle.cats_cmd.specs.Reports.{Reports, ReportsAll};
+ghost use Rattle.commands.specs.Round.{mend_line};
+ghost use Rattle.cats_cmd.specs.Rounding.{Rounds, fault_in_file, mend_lines, price_line, price_lines};
+ghost use Rattle.cats_cmd.specs.Internal.Roundings.{RoundsFile};
+ghost use Rattle.cats_cmd.specs.Reports.{Reports, ReportsAll, is_lost};
 
 use crate::bytes::read_bytes;
 use crate::lines::report_pieces;
 use crate::run::{is_lost, send_text, status_if_lost};
 use canon::CanonFault;
-use cats_text::Watched;
+use cats_text::{ReadFault, Watched};
 use commands::faults::RunFault;
-use commands::round::price_pieces;
+use commands::round::{mend_pieces, price_pieces};
 use commands::statuses::DONE;
+use rounding::layout::MendedLine;
+use rounding::mend::{line_in_file, mend};
 use rounding::replacement::PriceRule;
 use rounding::text::{RoundedPrice, RoundedText, round};
 use std::alloc::Global;
 use std::io::{Read, Write};
 
-/// Reads a text, rounds each price of it that is finer than a millionth, or refuses it, and writes each that is written
-/// otherwise as a price. Sends that text if it is a bid file, and then reports on `err` each price whose value changed. If
-/// that fails, the status says so.
+/// The text that became of a file, with the mends and the prices whose values changed.
+#[derive(Drop)]
+struct RoundedFile {
+    mends: Vec<MendedLine>,
+    rounded: RoundedText,
+}
+
+/// Reads a text, mends it, rounds each price of it that is finer than a millionth, or refuses it, and writes each that is
+/// written otherwise as a price. Sends that text if it is a bid file, and then reports on `err` each mend, and each price
+/// whose value changed. If that fails, the status says so.
 ///
-/// A fault is the first of the text that results, as `run_check` has it.
+/// A fault is the first of the text that results, as `run_check` has it, at its line in the file.
 pub(crate) fn run_round<R: Read, W: Write, E: Write>(
     alloc: Global,
     input: &mut Watched<R>,
@@ -42,34 +51,82 @@ pub(crate) fn run_round<R: Read, W: Write, E: Write>(
         Ok(text) => text,
         Err(fault) => return Err(RunFault::from(CanonFault::from(fault))),
     };
-    let rounded = round_bytes(alloc, text.as_slice(), rule)?;
-    let status = send_text(out, DONE, rounded.text.as_slice())?;
-    report_prices(rounded.prices.as_slice(), err);
-    let lost = is_lost(rounded.prices.len(), err);
-    Ok(status_if_lost(lost, status))
+    let file = round_file(alloc, text, rule)?;
+    let status = send_text(out, DONE, file.rounded.text.as_slice())?;
+    report_changes(&file, err);
+    Ok(status_if_lost(are_lost(&file, err), status))
 }
 
-/// The text with its prices rounded. If memory is refused to the rounding, the run answers that memory was refused.
-fn round_bytes(alloc: Global, text: &[u8], rule: PriceRule) -> Result<RoundedText, CanonFault>
-    ensures { RoundsText rule text.now result }
+/// What becomes of the bytes of a file, which are mended and then rounded. If memory is refused to that, the run answers
+/// that memory was refused.
+fn round_file(alloc: Global, text: Vec<u8>, rule: PriceRule) -> Result<RoundedFile, CanonFault>
+    ensures { RoundsFile rule text.items result }
 {
-    match round(alloc, text, rule) {
-        Ok(rounded) => Ok(rounded),
-        Err(fault) => Err(CanonFault::from(fault)),
+    let Ok(mended) = mend(alloc, text) else {
+        return Err(CanonFault::Memory);
+    };
+    match round(alloc, mended.text.as_slice(), rule) {
+        Ok(rounded) => Ok(RoundedFile {
+            mends: mended.mends,
+            rounded,
+        }),
+        Err(fault) => Err(CanonFault::from(fault_in_file(mended.mends.as_slice(), fault))),
     }
 }
 
-/// Reports prices whose values changed, each on a line.
-fn report_prices<E: Write>(prices: &[RoundedPrice], err: &mut Watched<E>)
-    ensures { ReportsAll E.contents (map rounded_line (plain_changes prices.now)) err.old err.new }
+/// A fault of a mended text, at its line in the file.
+fn fault_in_file(mends: &[MendedLine], fault: ReadFault) -> ReadFault
+    ensures { result ≡ fault_in_file mends.now fault }
+{
+    ReadFault {
+        line: line_in_file(mends, fault.line),
+        kind: fault.kind,
+    }
+}
+
+/// Reports each mend, and then each price whose value changed.
+fn report_changes<E: Write>(file: &RoundedFile, err: &mut Watched<E>)
+    ensures { ReportsAll E.contents (mend_lines file.now.mends.items
+        ++ price_lines file.now.mends.items (plain_changes file.now.rounded.prices.items)) err.old err.new }
+{
+    report_mends(file.mends.as_slice(), err);
+    report_prices(file.mends.as_slice(), file.rounded.prices.as_slice(), err);
+}
+
+/// Whether a report on what was changed is lost, as standard error failed.
+fn are_lost<E>(file: &RoundedFile, err: &Watched<E>) -> bool
+    ensures { result ≡ (is_lost (length file.now.mends.items) err.now
+        || is_lost (length file.now.rounded.prices.items) err.now) }
+{
+    is_lost(file.mends.len(), err) || is_lost(file.rounded.prices.len(), err)
+}
+
+/// Reports mends, each on a line.
+fn report_mends<E: Write>(mends: &[MendedLine], err: &mut Watched<E>)
+    ensures { ReportsAll E.contents (mend_lines mends.now) err.old err.new }
+{
+    for mended in mends {
+        report_mend(*mended, err);
+    }
+}
+
+fn report_mend<E: Write>(mended: MendedLine, err: &mut Watched<E>)
+    ensures { Reports E.contents (mend_line mended) err.old err.new }
+{
+    report_pieces(err, &mend_pieces(mended));
+}
+
+/// Reports prices of a mended text whose values changed, each on a line.
+fn report_prices<E: Write>(mends: &[MendedLine], prices: &[RoundedPrice], err: &mut Watched<E>)
+    ensures { ReportsAll E.contents (price_lines mends.now (plain_changes prices.now)) err.old err.new }
 {
     for price in prices {
-        report_price(price, err);
+        report_price(mends, price, err);
     }
 }
 
-fn report_price<E: Write>(price: &RoundedPrice, err: &mut Watched<E>)
-    ensures { Reports E.contents (rounded_line (plain_change price.now)) err.old err.new }
+fn report_price<E: Write>(mends: &[MendedLine], price: &RoundedPrice, err: &mut Watched<E>)
+    ensures { Reports E.contents (price_line mends.now (plain_change price.now)) err.old err.new }
 {
-    report_pieces(err, &price_pieces(price));
+    report_pieces(err, &price_pieces(line_in_file(mends, price.line), price));
 }

@@ -3,7 +3,8 @@
 ghost use Rattle.std.specs.Prelude.{◌≡◌, ◌++◌, ℕ, [], ◌∷◌, map, codes, Vec, Ok, Err, Some, None, true, false};
 ghost use Rattle.std.specs.Global.{Global};
 ghost use Rattle.bid_file.specs.Files.{PlainFile};
-ghost use Rattle.cats_text.specs.declared.read_fault.Kind.TheVariants.{TooFine, TwoDummies};
+ghost use Rattle.cats_text.specs.Faults.{fault_at};
+ghost use Rattle.cats_text.specs.declared.read_fault.Kind.TheVariants.{Header, NoEnd, TooFine, TwoDummies};
 ghost use Rattle.commands.specs.Examples.{larger_bid, xor_ladder};
 ghost use Rattle.commands.specs.Outcomes.{Prints};
 ghost use Rattle.cats_text.specs.Examples.{known, watched};
@@ -24,7 +25,8 @@ ghost use Rattle.cats_cmd.specs.Paths.{ReportsFrom, report_lines, status_of_path
 ghost use Rattle.cats_cmd.specs.Paths.{with_refusals, without_refusals};
 ghost use Rattle.commands.specs.Sizes.{counts_of, sizes_of};
 ghost use Rattle.cats_cmd.specs.SizesTables.{MakesTable, row};
-ghost use Rattle.cats_cmd.specs.Rounding.{round_outcome};
+ghost use Rattle.cats_cmd.specs.Rounding.{fault_in_file, round_lines, round_outcome};
+ghost use Rattle.rounding.specs.declared.layout.Mend.TheVariants.{Dummy};
 ghost use Rattle.cats_cmd.specs.PricedInputs.{PricedGives, PricedRefuses, counted, none_rounded, rounded_count};
 ghost use Rattle.cats_cmd.specs.PricedInputs.{rounding_lines};
 ghost use Rattle.rounding.specs.Texts.{rounded_prices};
@@ -149,11 +151,16 @@ pub fn table_rows()
         ≡ codes "1 of 2 a\n" ∷ codes "2 of 2 b\n" ∷ codes "b: 2 prices rounded\n" ∷ [] }
 {}
 
-/// What `cats round` makes of bytes.
+/// What `cats round` makes of bytes, and what it reports: lines are those of the file.
 pub fn rounded_texts()
-    ensures { map (λ lost. round_outcome (price_rule Round 0) lost (codes "goods 1\nbids 1\ndummy 0\n0 0.0123456 0 #\n")) (false ∷ true ∷ [])
-        ≡ Prints 0 (codes "goods 1\nbids 1\ndummy 0\n0 0.012346 0 #\n") ∷
-        Prints 5 (codes "goods 1\nbids 1\ndummy 0\n0 0.012346 0 #\n") ∷ [] }
+    ensures text { map (λ lost. round_outcome (price_rule Round 0) lost (codes "# one\nGoods: 1\nbids 1\n0 0.0123456 0 #\n"))
+        (false ∷ true ∷ []) ≡ Prints 0 (codes "% one\ngoods 1\nbids 1\ndummy 0\n0 0.012346 0 #\n") ∷
+        Prints 5 (codes "% one\ngoods 1\nbids 1\ndummy 0\n0 0.012346 0 #\n") ∷ [] }
+    ensures lines { round_lines (price_rule Round 0) (codes "# one\nGoods: 1\nbids 1\n0 0.0123456 0 #\n")
+        ≡ codes "line 1: comment with % for #\n" ∷ codes "line 2: keyword respelled\n"
+        ∷ codes "line 4: dummy 0 put in before it\n" ∷ codes "line 4: 0.0123456 rounded to 0.012346\n" ∷ [] }
+    ensures fault { map (fault_in_file (record { line = 3; mend = Dummy } ∷ [])) (fault_at 2 Header ∷ fault_at 6 NoEnd ∷ [])
+        ≡ fault_at 2 Header ∷ fault_at 5 NoEnd ∷ [] }
 {}
 
 /// Whether a report on prices is lost, and what a run then answers: a failure stays what it is.

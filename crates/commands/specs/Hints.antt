@@ -201,23 +201,26 @@ sentence hints.LinearProgram =
     codes "the file is a linear program; give the bid file itself, of which `cats lp` prints one"
 sentence hints.Mps = codes "this seems a linear program in MPS; give the bid file that it was made of"
 sentence hints.Order = codes "header lines are `goods N`, `bids N` and `dummy N`, each once and in this order"
-sentence hints.Capital = codes "`goods`, `bids` and `dummy` are in lower case"
-sentence hints.Colon = codes "a header line is `goods`, `bids` or `dummy`, a blank, and a number; leave out other signs"
-sentence hints.Comment = codes "a comment line begins with `%`; write `%` before this line"
+sentence hints.Capital = codes "`goods`, `bids` and `dummy` are in lower case; `cats round F` writes them so"
+sentence hints.Colon =
+    codes "a header line is `goods`, `bids` or `dummy`, a blank, and a number; `cats round F` cuts a colon"
+sentence hints.Comment =
+    codes "a comment line begins with `%`; write `%` before this line; `cats round F` does it for `#`"
 sentence hints.Quoted = codes "leave out quotes; words have only blanks between them"
 sentence hints.Table =
     codes "the file is a table (CSV); a bid file has three header lines, and then a line for each bid"
 sentence hints.NoHeader = codes "a number is where the header is due: `goods N`, `bids N` and `dummy N` come first"
 sentence hints.Pdf =
-    codes "a number is where a header line is due: is `dummy 0` missing, or is this a PDF? see `file F`"
+    codes "a number is where a header line is due: is `dummy` missing (`cats round F`), or is this a PDF?"
 sentence hints.NoDummy =
-    codes "a number is where a header line is due; if only `dummy` is missing, write `dummy 0` before it"
+    codes "a number is where a header line is due; if only `dummy` is missing, `cats round F` puts it in"
 sentence hints.NoText = codes "the word has bytes of no text; the file is packed, UTF-16 or damaged: `file F` says more"
 sentence hints.NotAscii = codes "the word has bytes that are not ASCII, such as a no-break space; write ASCII alone"
 sentence hints.NoNumber =
     codes "a header line is a word and its number; if the file ends here, it seems cut: compare its length"
 sentence hints.OneLine = codes "each header line is a line of its own; begin a new line before this word"
-sentence hints.CommentBehind = codes "a comment is a line of its own that begins with `%`; move it to one"
+sentence hints.CommentBehind =
+    codes "a comment is a line of its own that begins with `%`; `cats round F` cuts one behind a bid's `#`"
 sentence hints.TwoNumbers = codes "a header line has one number: write it without blanks, and remove what is behind it"
 sentence hints.MoreWords = codes "a header line is its word and one number; remove what is behind it"
 sentence hints.Joined = codes "a header line is among the bids; were files joined? keep each in a file of its own"

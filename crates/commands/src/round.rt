@@ -1,20 +1,21 @@
-//! `cats round`: the line of a price that it changed.
+//! `cats round`: the lines on what it changed.
 
-ghost use Rattle.std.specs.Prelude.{codes};
-ghost use Rattle.std.specs.Prelude.{◌≡◌};
+ghost use Rattle.std.specs.Prelude.{◌≡◌, ◌∷◌, [], codes, map};
 ghost use Rattle.rounding.specs.Views.{plain_change};
 ghost use Rattle.commands.specs.Pieces.{text_of_pieces};
-ghost use Rattle.commands.specs.Round.{rounded_line};
+ghost use Rattle.commands.specs.Round.{at_line, mend_line, mend_words, rounded_line};
+ghost use Rattle.rounding.specs.declared.layout.Mend.TheVariants.{Dummy, Keyword, Comment, Remark};
 
 use crate::printed::pieces::Piece;
 use requests::help::CommandHelp;
+use rounding::layout::{Mend, MendedLine};
 use rounding::text::RoundedPrice;
 
 /// What `--help` prints of it.
 pub fn help<'a>() -> CommandHelp<'a> {
     CommandHelp {
         name: "round",
-        about: "Prints a bid file with prices rounded, and reports which changed",
+        about: "Prints a bid file with its form mended and prices rounded, and reports both",
         arguments: &[(
             "times",
             "\
@@ -24,8 +25,8 @@ power of ten, from 1 to 1000000000000",
         after: "\
 Prints the text of a bid file in which each price that is a decimal, such as
 1.02345e+06, .5 or 0.0123456, is written so that it is read: rounded to the
-nearest millionth, and halfway between two to the even one. A valid price and
-every other byte stay as they are. For example:
+nearest millionth, and halfway between two to the even one. A valid price stays
+as it is. For example:
   $ cats round examples/six_digits.cats
 
 Each price whose value changed is one line on standard error:
@@ -38,23 +39,31 @@ of a few millionths become numbers that stay as they are. Revenues are N times
 as large then, and auctions that are compared need the same N:
   $ cats round --times 100000 examples/six_digits.cats
 
-The output is always a bid file. If the text with its prices rounded is not
-one, its first fault is reported as by 'cats check', and nothing is printed.
-Other commands round prices before they read a file, if --round is given:
+What costs only form is mended first: a missing line 'dummy', keywords such as
+Goods or goods:, comments with #, and remarks behind the # of a bid. Each mend
+is a line on standard error too. Every other byte stays as it is:
+  line 1: comment with % for #
+  line 2: keyword respelled
+  line 4: dummy 0 put in before it
+  line 4: remark behind # cut
+
+The output is always a bid file. If the text that results is not one, its first
+fault is reported as by 'cats check', and nothing is printed. Other commands
+round prices before they read a file, if --round is given, but mend nothing:
   $ cats normalise --round auction.txt
 
-Statuses: 0, whether or not a price was rounded; 2 if the text with its prices
-rounded is not a bid file; 4, 5 and 64 as 'cats --help' lists them",
+Statuses: 0, whether or not something changed; 2 if the text that results is
+not a bid file; 4, 5 and 64 as 'cats --help' lists them",
     }
 }
 
-/// The line in which the price is, as it is written there, and its new value, in pieces.
-pub fn price_pieces(price: &RoundedPrice) -> [Piece<'_>; 7]
-    ensures { text_of_pieces result ≡ rounded_line (plain_change price.now) }
+/// The price as it is written in this line, and its new value, in pieces.
+pub fn price_pieces(line: u64, price: &RoundedPrice) -> [Piece<'_>; 7]
+    ensures { text_of_pieces result ≡ rounded_line (at_line line (plain_change price.now)) }
 {
     [
         Piece::Text(b"line "),
-        Piece::Number(price.line),
+        Piece::Number(line),
         Piece::Text(b": "),
         Piece::Text(price.word.as_slice()),
         Piece::Text(b" rounded to "),
@@ -62,6 +71,39 @@ pub fn price_pieces(price: &RoundedPrice) -> [Piece<'_>; 7]
         Piece::Text(b"\n"),
     ]
 }
+
+/// The line on a mend, in pieces.
+pub fn mend_pieces(mended: MendedLine) -> [Piece<'static>; 5]
+    ensures { text_of_pieces result ≡ mend_line mended }
+{
+    [
+        Piece::Text(b"line "),
+        Piece::Number(mended.line),
+        Piece::Text(b": "),
+        Piece::Text(mend_words(mended.mend).as_bytes()),
+        Piece::Text(b"\n"),
+    ]
+}
+
+/// What was mended, behind the number of the line.
+fn mend_words(mend: Mend) -> &'static str
+    ensures { result.now ≡ mend_words mend }
+{
+    match mend {
+        Mend::Dummy => "dummy 0 put in before it",
+        Mend::Keyword => "keyword respelled",
+        Mend::Comment => "comment with % for #",
+        Mend::Remark => "remark behind # cut",
+    }
+}
+
+/// The lines on mends.
+pub fn mend_lines()
+    ensures { map mend_line (record { line = 1; mend = Keyword } ∷ record { line = 2; mend = Comment }
+        ∷ record { line = 3; mend = Dummy } ∷ record { line = 12; mend = Remark } ∷ [])
+        ≡ codes "line 1: keyword respelled\n" ∷ codes "line 2: comment with % for #\n"
+        ∷ codes "line 3: dummy 0 put in before it\n" ∷ codes "line 12: remark behind # cut\n" ∷ [] }
+{}
 
 /// The line of a price whose value changed.
 pub fn rounded_lines()

@@ -1,5 +1,5 @@
 -- What rounding the bytes of a file answers.
-use Rattle.std.specs.Prelude.{◌≡◌, ◌⊎◌, ◌++◌, ℕ, List, Option, Some, None, Result, Ok, Err, Vec}
+use Rattle.std.specs.Prelude.{◌≡◌, ◌⊎◌, ◌++◌, ℕ, List, Option, Some, None, Result, Ok, Err, Vec, true}
 use Rattle.std.specs.Global.{Global}
 use Rattle.cats_text.specs.declared.read_fault.ReadFault.{ReadFault}
 use Rattle.cats_text.specs.declared.stream.Watched.{Watched}
@@ -15,17 +15,29 @@ use Rattle.cats_text.specs.Faults.{fault_at, first_fault}
 use Rattle.canon.specs.declared.canon_fault.CanonFault.{CanonFault}
 use Rattle.canon.specs.declared.canon_fault.CanonFault.TheVariants.{Read, StepLimit, Memory}
 use Rattle.rounding.specs.Answers.{IsRounded, WantsMemoryToRound}
+use Rattle.rounding.specs.Layouts.{has_mends, mended_places, mended_text}
+use Rattle.cats_cmd.specs.Rounding.{fault_in_file, result_text}
+use Rattle.cats_cmd.specs.declared.round.RoundedFile.{RoundedFile}
 use Rattle.rounding.specs.Pieces.{IsRounding, prices_with, rounded_with}
 use Rattle.rounding.specs.Texts.{rounded_prices, rounded_text}
 use Rattle.rounding.specs.Views.{plain_changes}
 use Rattle.rounding.specs.declared.replacement.PriceRule.{PriceRule}
-use Rattle.rounding.specs.declared.text.RoundedText.{RoundedText}
 
-abbrev pub RoundsText : PriceRule → List ℕ → Result RoundedText CanonFault → Type 0
-RoundsText rule text (Ok rounded) = IsRounded rule text rounded
-RoundsText rule text (Err (Read fault)) = first_fault (rounded_text rule text) ≡ Some fault
-RoundsText rule text (Err (StepLimit goods)) = ⊥
-RoundsText rule text (Err Memory) = WantsMemoryToRound rule text
+-- the mends of the bytes of a file, and their mended text with its prices rounded
+pub record IsRoundedFile (rule : PriceRule) (bytes : List ℕ) (file : RoundedFile) : Type 0 where
+  pub mends_are : file.mends.items ≡ mended_places bytes
+  pub rounded : IsRounded rule (mended_text bytes) file.rounded
+
+-- the first fault of the text that results, at its line in the file
+abbrev pub IsResultFault : PriceRule → List ℕ → ReadFault → Type 0
+IsResultFault rule bytes fault = (found : ReadFault) × (first_fault (result_text rule bytes) ≡ Some found)
+    × (fault ≡ fault_in_file (mended_places bytes) found)
+
+abbrev pub RoundsFile : PriceRule → List ℕ → Result RoundedFile CanonFault → Type 0
+RoundsFile rule bytes (Ok file) = IsRoundedFile rule bytes file
+RoundsFile rule bytes (Err (Read fault)) = IsResultFault rule bytes fault
+RoundsFile rule bytes (Err (StepLimit goods)) = ⊥
+RoundsFile rule bytes (Err Memory) = (has_mends bytes ≡ true) ⊎ WantsMemoryToRound rule (mended_text bytes)
 
 -- ---- a reader of a text whose prices are rounded while it comes
 

@@ -61,11 +61,11 @@ pub fn header_words()
     ensures order { hint_of (place 2 1 (codes "goods") Header) ≡
         codes "header lines are `goods N`, `bids N` and `dummy N`, each once and in this order" }
     ensures capital { hint_of (place 1 1 (codes "Goods") Header) ≡
-        codes "`goods`, `bids` and `dummy` are in lower case" }
+        codes "`goods`, `bids` and `dummy` are in lower case; `cats round F` writes them so" }
     ensures colon { hint_of (place 1 1 (codes "goods:") Header) ≡
-        codes "a header line is `goods`, `bids` or `dummy`, a blank, and a number; leave out other signs" }
+        codes "a header line is `goods`, `bids` or `dummy`, a blank, and a number; `cats round F` cuts a colon" }
     ensures comment { hint_of (place 1 1 (codes "#") Header) ≡
-        codes "a comment line begins with `%`; write `%` before this line" }
+        codes "a comment line begins with `%`; write `%` before this line; `cats round F` does it for `#`" }
     ensures quotes { hint_of (place 1 1 (34 ∷ 103 ∷ 111 ∷ 111 ∷ 100 ∷ 115 ∷ 34 ∷ []) Header) ≡
         codes "leave out quotes; words have only blanks between them" }
     ensures table { hint_of (place 1 1 (codes "bid,price,goods") Header) ≡
@@ -73,9 +73,9 @@ pub fn header_words()
     ensures no_header { hint_of (place 1 1 (codes "0") Header) ≡
         codes "a number is where the header is due: `goods N`, `bids N` and `dummy N` come first" }
     ensures pdf { hint_of (place 3 1 (codes "1") Header) ≡
-        codes "a number is where a header line is due: is `dummy 0` missing, or is this a PDF? see `file F`" }
+        codes "a number is where a header line is due: is `dummy` missing (`cats round F`), or is this a PDF?" }
     ensures no_dummy { hint_of (place 7 1 (codes "0") Header) ≡
-        codes "a number is where a header line is due; if only `dummy` is missing, write `dummy 0` before it" }
+        codes "a number is where a header line is due; if only `dummy` is missing, `cats round F` puts it in" }
     ensures no_text { hint_of (place 2 1 (0 ∷ 7 ∷ []) Header) ≡
         codes "the word has bytes of no text; the file is packed, UTF-16 or damaged: `file F` says more" }
     ensures not_ascii { hint_of (place 1 1 (194 ∷ 160 ∷ 103 ∷ 111 ∷ 111 ∷ 100 ∷ 115 ∷ []) Header) ≡
@@ -89,7 +89,7 @@ pub fn header_lines()
     ensures one_line { hint_of (place 1 3 (codes "bids") Header) ≡
         codes "each header line is a line of its own; begin a new line before this word" }
     ensures comment_behind { hint_of (place 1 3 (codes "#") Header) ≡
-        codes "a comment is a line of its own that begins with `%`; move it to one" }
+        codes "a comment is a line of its own that begins with `%`; `cats round F` cuts one behind a bid's `#`" }
     ensures two_numbers { hint_of (place 1 3 (codes "096") Header) ≡
         codes "a header line has one number: write it without blanks, and remove what is behind it" }
     ensures more_words { hint_of (place 1 3 (codes "goods.") Header) ≡
@@ -105,7 +105,7 @@ pub fn marks_and_signs()
     ensures mark { hint_of (place 9 1 (239 ∷ 187 ∷ 191 ∷ 37 ∷ []) NotANumber) ≡
         codes "a byte order mark is inside the file; were files joined? keep each in a file of its own" }
     ensures comment { hint_of (place 9 1 (codes "//") NotANumber) ≡
-        codes "a comment line begins with `%`; write `%` before this line" }
+        codes "a comment line begins with `%`; write `%` before this line; `cats round F` does it for `#`" }
     ensures old_end { hint_of (place 9 1 (26 ∷ []) NotANumber) ≡
         codes "the byte 26 (Ctrl-Z) ends the file, as old programs write it; remove it" }
     ensures zeros { hint_of (place 9 1 (0 ∷ 0 ∷ []) NotANumber) ≡
@@ -115,7 +115,7 @@ pub fn marks_and_signs()
     ensures quotes { hint_of (place 4 2 (34 ∷ 53 ∷ 34 ∷ []) NotANumber) ≡
         codes "leave out quotes; words have only blanks between them" }
     ensures comment_behind { hint_of (place 4 4 (codes "%") NotANumber) ≡
-        codes "a comment is a line of its own that begins with `%`; move it to one" }
+        codes "a comment is a line of its own that begins with `%`; `cats round F` cuts one behind a bid's `#`" }
     ensures not_finite { hint_of (place 4 2 (codes "inf") NotANumber) ≡
         codes "`nan` and `inf` are no numbers; correct the program that wrote them" }
     ensures not_finite_number { hint_of (place 4 2 (codes "-nan(ind)") NotANumber) ≡
@@ -209,9 +209,9 @@ pub fn lines_and_ends()
     ensures again { hint_of (place 4 5 (codes "#") AfterEnd) ≡
         codes "a bid line has one `#`; remove this one" }
     ensures comment { hint_of (place 4 5 (codes "%") AfterEnd) ≡
-        codes "a comment is a line of its own that begins with `%`; move it to one" }
+        codes "a comment is a line of its own that begins with `%`; `cats round F` cuts one behind a bid's `#`" }
     ensures remark { hint_of (place 4 5 (codes "note") AfterEnd) ≡
-        codes "a comment is a line of its own that begins with `%`; move it to one" }
+        codes "a comment is a line of its own that begins with `%`; `cats round F` cuts one behind a bid's `#`" }
     ensures bid { hint_of (place 4 5 (codes "1") AfterEnd) ≡
         codes "a line ends at `#`; if another bid is behind it, begin a new line here" }
 {}

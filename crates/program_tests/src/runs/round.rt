@@ -36,6 +36,18 @@ static TEXTS: &[Row<'_>] = rows! {
     ("round --times=10 FILE", &[b"{1 1 0}0 100000000001 0 #\n"], 2, "", "line 4: TooLarge\n"),
     ("round --times=20 FILE", &[b"{1 1 0}0 1 0 #\n"], 64, "",
      "error: '--times <N>' is a power of ten, from 1 to 1000000000000\n\nFor more information, try '--help'.\n"),
+    // layouts of other publishers: reports and faults have lines of the file
+    ("round FILE", &[b"# two bids\nGoods: 2\r\nBIDS 2\n0 3 0 #\tnorth\n  #\n1 1e-7 1 #\n"], 0,
+     "% two bids\ngoods 2\r\nbids 2\ndummy 0\n0 3 0 #\n  %\n1 0 1 #\n",
+     "line 1: comment with % for #\nline 2: keyword respelled\nline 3: keyword respelled\nline 4: dummy 0 put in before it\n\
+      line 4: remark behind # cut\nline 5: comment with % for #\nline 6: 1e-7 rounded to 0\n"),
+    ("round FILE", &[b"goods 1\nbids 1\n\n0 5 0 # 1 6 0 #\n"], 2, "", "line 4: AfterEnd\n"),
+    ("round FILE", &[b"goods 1\nbids 2\n0 5 0 #\n"], 2, "", "line 4: Missing\n"),
+    ("round --exact FILE", &[b"Goods 1\nbids 2\n0 5 0 #\n1 1e-7 0 #\n"], 2, "", "line 4: TooFine\n"),
+    ("round FILE", &[b"goods 2 # two\nbids 0\ndummy 0\n"], 2, "", "line 1: Header\n"),
+    ("round FILE", &[b"goods 1\nbids 0\n"], 2, "", "line 3: Missing\n"),
+    // only `round` mends
+    ("check --round FILE", &[b"goods 1\nbids 1\n0 5 0 #\n"], 2, "", "line 3: Header\n"),
 };
 
 #[test]

@@ -8,8 +8,8 @@ returns-in-Err g c = rw c.from-in-Err.ensures (rw c.from.ensures (round_unread _
 
 pub returns-in_err-status : goal.returns-in_err-status
 returns-in_err-status g c =
-    let is = rw c.as_slice.ensures.value at c.in_ok-rounded.ensures in
+    let is = c.in_ok-file.ensures.rounded in
     let fault = c.in_err-status.field-0.0 in
-    round_unsent _ _ _ _ _ _ _ _ _ c.in-Ok.text.items c.in-Ok.ensures c.in_ok-rounded.rounded is fault
-    (subst (λ (text : List ℕ). SendsAs g.W.Write.contents 0 text c.args.out.now c.send_text.new.out (Err fault)) (c.as_slice-2.ensures.value ∙ is.text_is)
+    round_unsent _ _ _ _ _ _ _ _ _ c.in-Ok.text.items c.in-Ok.ensures c.in_ok-file.file.rounded is fault
+    (subst (λ (text : List ℕ). SendsAs g.W.Write.contents 0 text c.args.out.now c.send_text.new.out (Err fault)) (c.as_slice.ensures.value ∙ is.text_is)
     c.in_err-status.ensures) _ c.from_residual-in_err-status.ensures.1

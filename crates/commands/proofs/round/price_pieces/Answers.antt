@@ -7,4 +7,4 @@ joined : (line word price : List ℕ) → codes "line " ++ (line ++ (codes ": " 
 joined line word price = simp append_assoc refl
 
 pub returns : goal.returns
-returns c = let price = c.args.price.now in rw c.as_slice.ensures.value (joined (decimal price.line) price.word.items (price_text price.price))
+returns c = let price = c.args.price.now in rw c.as_slice.ensures.value (joined (decimal c.args.line) price.word.items (price_text price.price))
