@@ -1,9 +1,9 @@
 -- A `FaultSearch` finds the first fault of its text. The idea: what it has judged of a text does not depend on what is behind it, so the rest of the lines
 -- gives what all of them give.
-use Rattle.cats_text.proofs.Common.{rules, ◌≡◌, ◌≢◌, ℕ, suc, ◌+◌, ◌-◌, ◌<◌, ◌≤◌, ◌^◌, Bool, true, false, cond, eqb, List, [], ◌∷◌, ◌++◌, length, ap, ◌∙◌}
+use Rattle.cats_text.proofs.Common.{◌≡◌, ℕ, suc, ◌+◌, ◌-◌, ◌<◌, ◌≤◌, Bool, true, false, cond, eqb, List, [], ◌∷◌, ◌++◌, length, ap, ◌∙◌}
 use Rattle.cats_text.proofs.Common.{sym, subst}
-use Rattle.cats_text.proofs.Common.{refl, arith, add-one, add-zero, append-nil, append_assoc, length-append, Ok, Err, Option, Some, None, slice_get}
-use Rattle.cats_text.proofs.Common.{AllByRecursion, PlainPlace, place_behind, first_place, raw_lines, blank_returns, RawLine, line_words, is_significant}
+use Rattle.cats_text.proofs.Common.{refl, arith, append-nil, append_assoc, length-append, Ok, Err, Option, Some, None, slice_get}
+use Rattle.cats_text.proofs.Common.{PlainPlace, place_behind, first_place, raw_lines, blank_returns, RawLine, line_words, is_significant}
 use Rattle.cats_text.proofs.Common.{without_return}
 use Rattle.cats_text.proofs.Common.{Judged, judged_at, judged_then, words_judged, line_judged, seen, Progress, Reading, start, word_read, line_read}
 use Rattle.cats_text.proofs.Common.{is_due, summary, Word}
@@ -11,15 +11,15 @@ use Rattle.cats_text.proofs.Common.{number_alone, Missing, FaultPlace, plain_pla
 use Rattle.cats_text.proofs.Common.{take_rest, take-length}
 use Rattle.cats_text.proofs.Common.{position, position-Some, unwrap_or}
 use Rattle.std.specs.List.{slice_split, onto_first}
-use Rattle.cats_text.specs.FaultLines.{IsFaultLine, FindsFault, bytes_of_line}
+use Rattle.cats_text.specs.FaultLines.{IsFaultLine, bytes_of_line}
 use Rattle.cats_text.specs.Internal.Finding.{lines_judged, lines_of_judged, text_judged, bytes_of, HasNoEnd, place_at, AreLines, IsInLine, IsBehindFault}
 use Rattle.cats_text.specs.Internal.Finding.{Seeks, IsSeeking}
-use Rattle.cats_text.specs.Internal.Finding.{PassesLine, FindsInLine, JudgesLine, HasNoFault, HasFaultAt, HasJudged}
+use Rattle.cats_text.specs.Internal.Finding.{FindsInLine, JudgesLine, HasNoFault, HasFaultAt, HasJudged}
 use Rattle.cats_text.specs.declared.fault_finder.FaultLine.{FaultLine}
 use Rattle.cats_text.specs.declared.fault_finder.FaultSearch.{FaultSearch}
 use Rattle.cats_text.specs.declared.fault_finder.FaultyWord.{FaultyWord}
 use Rattle.cats_text.proofs.Texts.FirstPlaces.{IsBehind, at_first_line, line_stopped, line_passed, lines_ended, none_left}
-use Rattle.cats_text.proofs.Texts.FirstWords.{IsFound, found_at, line_to_end, line_to_feed}
+use Rattle.cats_text.proofs.Texts.FirstWords.{found_at, line_to_end, line_to_feed}
 
 -- ---- the place that the parser's answers give
 

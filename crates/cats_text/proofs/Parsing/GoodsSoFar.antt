@@ -1,6 +1,6 @@
 -- The goods of a bid so far: what the parser keeps of them answers the tests of the next.
 use Rattle.cats_text.proofs.Common.{◌≡◌, ◌≢◌, ℕ, ◌-◌, ◌<◌, ◌≤◌, Bool, true, false, not, ◌&&◌, ◌||◌, cond, eqb, ltb, leb, ◌⊎◌, List, [], ◌∷◌, ◌++◌, length, map}
-use Rattle.cats_text.proofs.Common.{ap, ◌∙◌, arith, Some, None, append-nil, eqb-true, eq-eqb, ne_eqb, ltb-false, lt-ltb, le-ltb, le-leb, lt-leb, leb-true}
+use Rattle.cats_text.proofs.Common.{ap, ◌∙◌, arith, Some, None, append-nil, eqb-true, eq-eqb, ne_eqb, lt-ltb, le-ltb, le-leb, lt-leb, leb-true}
 use Rattle.cats_text.proofs.Common.{both_ways, false_from_ne_true, or_cases, or_right, map-append, find-append, list_any-append, filter-append, find, list_any}
 use Rattle.cats_text.proofs.Common.{has-filter, refl}
 use Rattle.cats_text.proofs.Common.{is_some, Word, number_of, has_good, has_end, is_end, before_end, real_goods, dummy_in, common_steps, filter}

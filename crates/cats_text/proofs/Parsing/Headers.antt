@@ -2,7 +2,7 @@
 use Rattle.cats_text.proofs.Common.{◌≡◌, ℕ, ◌<◌, ◌≤◌, true, false, not, cond, ltb, leb, ⊎_elim, List, [], ◌∷◌, ◌++◌, refl, sym, ap, ap₂, ◌∙◌, subst, arith}
 use Rattle.cats_text.proofs.Common.{Option, None, Ok, Err, ltb-false, lt-ltb, le-leb, both_ways, is_number, number_of, header_word, word_fault, when}
 use Rattle.cats_text.proofs.Common.{header_value, keyword_text, Progress, Reading, keyword_read, header_number_read, read_at}
-use Rattle.cats_text.proofs.Common.{word_read, Kind, Keyword, Number, HELD, Stage, Goods, Bids, Dummy, Bid, Column, First, Second, Later, Ended, MAX_GOODS}
+use Rattle.cats_text.proofs.Common.{word_read, Kind, Keyword, Number, HELD, Stage, Goods, Bids, Dummy, Bid, Column, First, Second, Later, MAX_GOODS}
 use Rattle.cats_text.proofs.Common.{MAX_BIDS, MAX_DUMMY, common_steps}
 use Rattle.cats_text.specs.declared.read_fault.Kind.TheVariants as kinds
 use Rattle.cats_text.specs.declared.word.Keyword.{Keyword as Key}

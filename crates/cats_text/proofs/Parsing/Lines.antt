@@ -1,9 +1,8 @@
 -- Words, line ends and whole lines: the parser and the definitions agree.
-use Rattle.cats_text.proofs.Common.{rules, ◌≡◌, ℕ, ◌-◌, ◌<◌, Bool, true, false, ltb, List, [], ◌∷◌, length, refl, sym, ap, ap₂, ◌∙◌, subst, arith, Ok, Err}
-use Rattle.cats_text.proofs.Common.{length-append, ltb-true, ltb-false, lt-ltb, le-ltb, fold_push, is_line_due, has_end, bid_of, Progress, Reading, word_read}
-use Rattle.cats_text.proofs.Common.{line_at, line_read, with_bid, drafted, is_due, Stage, Goods, Bids, Dummy, Bid, Column, First, Second, Later, Ended, summary}
+use Rattle.cats_text.proofs.Common.{rules, ◌≡◌, ℕ, ◌-◌, ◌<◌, Bool, true, false, ltb, List, [], ◌∷◌, length, refl, sym, ap, ap₂, ◌∙◌, subst, arith}
+use Rattle.cats_text.proofs.Common.{length-append, ltb-true, ltb-false, lt-ltb, le-ltb, fold_push, is_line_due, has_end, bid_of, Progress, word_read}
+use Rattle.cats_text.proofs.Common.{line_at, line_read, drafted, is_due, Stage, Goods, Bids, Dummy, Bid, Column, Second, Later, summary}
 use Rattle.cats_text.proofs.Common.{common_steps}
-use Rattle.cats_text.specs.declared.read_fault.Kind.TheVariants as kinds
 use Rattle.cats_text.proofs.Words.Kept.{summarises}
 use Rattle.cats_text.proofs.Words.Tests.{tested}
 use Rattle.cats_text.proofs.Parsing.States.{IsAt, IsDraft, WordFollows, LineFollows, ended_column, kept_slots}

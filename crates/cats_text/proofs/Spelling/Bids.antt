@@ -6,7 +6,7 @@ use Rattle.cats_text.proofs.Common.{goods_of, has_good, SpellsBid, line_number, 
 use Rattle.cats_text.proofs.Common.{codes}
 use Rattle.cats_text.proofs.Spelling.Rising.{IsRising-of}
 use Rattle.cats_text.proofs.Spelling.Members.{bid_on, bid_on_same, bid_on_below, bid_on_real, bid_on_dummy, goods_are, rising_goods, same_dummy, has_real_good}
-use Rattle.cats_text.proofs.Spelling.Members.{real, dummy_of}
+use Rattle.cats_text.proofs.Spelling.Members.{dummy_of}
 use Rattle.cats_text.proofs.Spelling.Prices.{price_below, price_small}
 use Rattle.cats_text.proofs.Spelling.Goods.{IsBidLine, number_no_end}
 

@@ -1,7 +1,7 @@
 -- The numbers of a bid's goods: its real goods are those below G, and of those from G on it has one at most. Lists of numbers
 -- that are in the same lists of goods are the same, however they are ordered.
 use Rattle.cats_text.proofs.Common.{rules, ◌≡◌, ◌≢◌, ℕ, ◌+◌, ◌-◌, ◌<◌, ◌≤◌, Bool, true, false, eqb, ltb, leb, ◌||◌, ◌&&◌, ◌⊎◌, inl, ⊎_elim, List, [], ◌∷◌}
-use Rattle.cats_text.proofs.Common.{◌++◌, Some, length, Option, None, refl, sym, ap, ◌∙◌, subst, arith, both_ways, eqb-true, ltb-true, ltb-false, leb-true}
+use Rattle.cats_text.proofs.Common.{◌++◌, Some, length, Option, None, refl, sym, ap, ◌∙◌, subst, arith, both_ways, eqb-true, ltb-true, leb-true}
 use Rattle.cats_text.proofs.Common.{leb-false, or_cases, or_left, or_right, and_parts, false_from_ne_true, cases_lt, list_any-append, AllByRecursion, list_any}
 use Rattle.cats_text.proofs.Common.{find, AreBelow, IsRising, has_good, PlainBid, IsDummyBelow, dummy_good, goods_of, AreDistinct, rising_of, has_head}
 use Rattle.cats_text.proofs.Common.{has_tail, has_cases, has_below, has-filter, AreBelow-from_has, and_from, lt-ltb, common_steps, filter, option_map}

@@ -1,8 +1,8 @@
 -- What the machine gives on bytes, by the definitions over lines and words.
-use Rattle.cats_text.proofs.Common.{rules, ◌≡◌, ℕ, ◌<◌, true, false, List, [], ◌∷◌, ◌++◌, length, Some, None, ◌⊎◌, ⊎_elim, inr, Ok, Err, IsOkAnd, sym, ap, ◌∙◌}
+use Rattle.cats_text.proofs.Common.{rules, ◌≡◌, ℕ, ◌<◌, true, false, List, [], ◌∷◌, ◌++◌, length, Some, None, ◌⊎◌, ⊎_elim, Ok, Err, sym, ap, ◌∙◌}
 use Rattle.cats_text.proofs.Common.{subst, arith, refl, both_ways, lt-ltb, length-map, PlainFile, PlainBid, Word, Line, significant_lines, Spells}
 use Rattle.cats_text.proofs.Common.{significant_words, first_fault, complete_fault, has_bid_line, is_line_due, SpellsParts, settled, waits, carried, Progress}
-use Rattle.cats_text.proofs.Common.{filled, file_of_lines, State, Scan, first_state, and_then, scan, byte_step, end_step, end_of, MeetsBidLine, IsInBidLine}
+use Rattle.cats_text.proofs.Common.{filled, file_of_lines, State, Scan, first_state, and_then, scan, end_step, end_of, MeetsBidLine, IsInBidLine}
 use Rattle.cats_text.proofs.Common.{HasBids, whole, ReadFault, Header, common_steps, codes}
 use Rattle.cats_text.proofs.Scanning.AllBytes.{outcome}
 use Rattle.cats_text.proofs.Texts.FirstFaults.{WholeIs, whole_fault}

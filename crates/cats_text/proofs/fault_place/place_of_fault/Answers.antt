@@ -1,5 +1,5 @@
 -- `place_of_fault`
-use Rattle.cats_text.proofs.Common.{rules, [], ap, ◌∙◌, sym, subst, arith, add-one, eqb-true, raw_lines, blank_returns, seen, line_judged}
+use Rattle.cats_text.proofs.Common.{rules, ap, ◌∙◌, sym, subst, arith, add-one, eqb-true, raw_lines, blank_returns, seen, line_judged}
 use Rattle.cats_text.proofs.Common.{plain_place}
 use Rattle.cats_text.proofs.Texts.FirstPlaces.{IsBehind, at_first_line, line_stopped, line_passed, lines_ended, machine_stops, none_left, place_if}
 use Rattle.cats_text.proofs.fault_place.place_of_fault.Goals as goal

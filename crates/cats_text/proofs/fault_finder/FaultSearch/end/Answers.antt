@@ -1,5 +1,5 @@
 -- `FaultSearch::end`
-use Rattle.cats_text.proofs.Common.{rules, ◌<◌, ◌≡◌, Ok, Err, Result, length}
+use Rattle.cats_text.proofs.Common.{rules, ◌<◌, Ok, Err, Result, length}
 use Rattle.std.specs.Prelude.{OnOk}
 use Rattle.std.specs.declared.alloc.AllocError.{AllocError}
 use Rattle.cats_text.proofs.Feeding.Finding.{ended_behind, ended_empty, ended_judged}
