@@ -39,7 +39,6 @@ pub use Rattle.cats_cmd.specs.Internal.Gathering.{Gathers, GathersNext}
 pub use Rattle.cats_cmd.specs.Internal.Judging.{KeepsNumbers, AddsJudgement, AddsOpened, AddsRefused, KeepsGroups, AddsPath, HasJudged, JudgesAllAs}
 pub use Rattle.cats_cmd.specs.Internal.Judging.{AddsStream, AddsFile, BeginsRun, KeepsFaults, SendsNext, ShowsNext, StopsAtPath}
 pub use Rattle.cats_cmd.specs.Internal.Judging.{OpensAllAs, opening_of}
-pub use Rattle.cats_cmd.specs.Internal.Roundings.{judged_of}
 pub use Rattle.cats_cmd.specs.Internal.Walking.{WalksBelow, StaysBelow}
 pub use Rattle.cats_cmd.specs.Openings.{status_of_run}
 pub use Rattle.cats_cmd.specs.Opening.{KeepsFiles, Opening, Opens, OpensEach, OpensFirst, in_way, openings_at, openings_found, openings_of, with_openings}

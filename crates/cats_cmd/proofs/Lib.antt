@@ -4,6 +4,7 @@ mod CarryingOut
 mod ComparedRows
 mod ComparingFolders
 mod FaultTexts
+mod FoundFaults
 mod ReadingBack
 mod PrintableTexts
 mod ShownTexts

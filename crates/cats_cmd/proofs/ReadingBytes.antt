@@ -3,6 +3,8 @@ use Rattle.cats_cmd.proofs.Common.{◌≡◌, ◌<◌, ◌≤◌, ◌+◌, ℕ, 
 use Rattle.cats_cmd.proofs.Common.{append-nil, length-append, Option, Ok, inl, inr, Consumes, Consumes-trans, ne_eqb, inner_of, has_ended, has_failed}
 use Rattle.cats_cmd.proofs.Common.{moved_nothing, Kind, Device, TooLong, ReadFault, MAX_STREAM, Watched, refusal_by_kind, refusal_of, CanonFault, Read, Memory}
 use Rattle.cats_cmd.proofs.Common.{IsUnreadStream, StopsReading, WantsMemoryForBytes}
+use Rattle.std.specs.Io.KnownBytes.{IsAtEnd}
+use Rattle.cats_cmd.specs.Inputs.{ReadsAll}
 
 -- a read that gave nothing
 pub no_more : (a b c : Option (List ℕ)) (bytes piece : List ℕ) (n : ℕ) → n ≡ 0 → Consumes a b bytes → Consumes b c (take n piece) → Consumes a c bytes
@@ -22,6 +24,20 @@ pub so_many_bytes : (bytes piece : List ℕ) (n : ℕ) → n ≡ length piece �
 so_many_bytes bytes piece n count = length-append bytes piece ∙ ap (λ (m : ℕ). length bytes + m) (sym count)
 
 module _ {R : Type 0} (remaining : R → Option (List ℕ)) where
+  -- a read met the end, and no call failed
+  pub all_read : (old between new : Watched R) (bytes piece : List ℕ) (n : ℕ) → n ≡ 0 → 0 < length piece
+      → Consumes (remaining (inner_of old)) (remaining (inner_of between)) bytes
+      → Consumes (remaining (inner_of between)) (remaining (inner_of new)) (take n piece)
+      → (n ≡ 0 → 0 < length piece → IsAtEnd (remaining (inner_of new))) → has_ended new ≡ (has_ended between || moved_nothing (Ok n) piece)
+      → has_failed new ≡ false → length bytes ≤ MAX_STREAM → ReadsAll remaining old new bytes
+  all_read old between new bytes piece n none some came gave end ended works within = record {
+    consumes = no_more (remaining (inner_of old)) (remaining (inner_of between)) (remaining (inner_of new)) bytes piece n none came gave;
+    within = within;
+    ended = ended ∙ at_the_end (has_ended between) n piece none some;
+    at_end = end none some;
+    works = works;
+  }
+
   pub too_many : (old between new : Watched R) (bytes piece : List ℕ) (n : ℕ) → Consumes (remaining (inner_of old)) (remaining (inner_of between)) bytes
       → Consumes (remaining (inner_of between)) (remaining (inner_of new)) piece → n ≡ length piece → MAX_STREAM < length bytes + n
       → StopsReading remaining old new 0 TooLong

@@ -3,6 +3,7 @@
 pub mod Carrying
 pub mod Comparing
 pub mod Finding
+pub mod FoundFaults
 pub mod Gathering
 pub mod GroupTables
 pub mod Judging

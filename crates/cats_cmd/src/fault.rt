@@ -1,15 +1,16 @@
 //! `cats fault`: where the first fault of each file is, and what helps against it.
 
-ghost use Rattle.std.specs.Prelude.{◌≡◌, ◌++◌, OnOk};
-ghost use Rattle.cats_text.specs.Views.{plain_place};
+ghost use Rattle.std.specs.Prelude.{◌≡◌, ◌++◌, ℕ, List, OnOk};
 ghost use Rattle.cats_cmd.specs.FindingFaults.{is_placed, text_of_fault};
+ghost use Rattle.cats_cmd.specs.Internal.FoundFaults.{IsFoundFault};
 
 use crate::escaping::escaped;
+use crate::found_fault::FoundFault;
 use crate::paths::{Added, Collection, ManyFiles, report_if_refused};
 use crate::priced_input::PricedInput;
 use crate::source::Source;
 use canon::CanonFault;
-use cats_text::fault_place::{FaultPlace, place_of_fault};
+use cats_text::fault_place::FaultPlace;
 use cats_text::{ReadFault, Watched};
 use commands::fault::{column_of, fault_place_text, place_in, shown_word};
 use commands::faults::{RunFault, Unopened};
@@ -38,17 +39,17 @@ impl Faults {
         ensures { IfOk result (AddsStream KeepsFaults (JudgesPriced R.remaining None) path.now self.old self.new input.old
             input.new) }
     {
-        let texts = match input.read_texts(alloc) {
-            Ok(texts) => texts,
+        let found = match input.find_fault(alloc) {
+            Ok(found) => found,
             Err(fault) => return Ok(Some(RunFault::from(CanonFault::from(fault)))),
         };
-        let Some(place) = place_of_fault(alloc, texts.judged())? else {
+        let Some(found) = found else {
             return Ok(None);
         };
-        push_fault(alloc, &mut self.text, path, texts.bytes(), &place)?;
+        push_fault(alloc, &mut self.text, path, &found)?;
         Ok(Some(RunFault::from(CanonFault::Read(ReadFault {
-            line: place.line,
-            kind: place.kind,
+            line: found.line,
+            kind: found.kind,
         }))))
     }
 }
@@ -126,15 +127,24 @@ fn push_fault(
     alloc: Global,
     text: &mut Vec<u8>,
     path: &[u8],
-    bytes: &[u8],
-    place: &FaultPlace<'_>,
+    found: &FoundFault,
 ) -> Result<(), AllocError>
-    ensures { OnOk result (text.new.items ≡ text.old.items ++ text_of_fault path.now bytes.now (plain_place place.now)) }
+    ensures { (bytes judged : List ℕ) (is : IsFoundFault bytes judged found.now)
+        → OnOk result (text.new.items ≡ text.old.items ++ text_of_fault path.now bytes is.place) }
 {
-    let place = place_in(bytes, place);
+    let there = FaultPlace {
+        line: found.line_of_text,
+        word: found.word,
+        text: b"",
+        kind: found.kind,
+    };
+    let column = column_of(found.text.as_slice(), &there);
+    let place = FaultPlace {
+        line: found.line,
+        ..place_in(found.text.as_slice(), &there)
+    };
     let path = escaped(alloc, path)?;
     let word = escaped(alloc, shown_word(&place))?;
-    let column = column_of(bytes, &place);
     let lines = fault_place_text(alloc, path.as_slice(), word.as_slice(), column, &place)?;
     text.extend_from_slice(lines.as_slice())?;
     Ok(())

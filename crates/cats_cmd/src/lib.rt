@@ -10,6 +10,7 @@ mod escaping;
 mod fault;
 mod folder;
 mod folders;
+mod found_fault;
 pub mod laws;
 mod lines;
 mod many_files;

@@ -1,20 +1,24 @@
 //! A stream of which a bid file is read, with its prices as they are written, or rounded.
 
-ghost use Rattle.std.specs.Prelude.{◌≡◌, IfSome};
-ghost use Rattle.cats_cmd.specs.Internal.Roundings.{judged_of, plain_texts};
+ghost use Rattle.std.specs.Prelude.{◌≡◌, ℕ, List, IfOk, IfSome};
+ghost use Rattle.cats_text.specs.FaultLines.{FindsFault};
+ghost use Rattle.rounding.specs.Texts.{rounded_text};
+ghost use Rattle.cats_cmd.specs.Internal.FoundFaults.{FindsIn, IsFound};
 ghost use Rattle.cats_cmd.specs.Internal.Gathering.{Gathers};
-ghost use Rattle.cats_cmd.specs.PricedInputs.{AnswersTexts, IsReady, both_counts, none_rounded, rounded_count};
-ghost use Rattle.cats_cmd.specs.PricedInputs.{rounded_words};
+ghost use Rattle.cats_cmd.specs.PricedInputs.{IsReady, both_counts, none_rounded, rounded_count, rounded_words};
 ghost use Rattle.cats_cmd.specs.PricedInputs.{rounding_line, rounding_lines, zeroed_words};
 ghost use Rattle.rounding.specs.Views.{plain_changes};
 ghost use Rattle.cats_cmd.specs.Reports.{Reports, ReportsAll};
 
 use crate::bytes::read_bytes;
+use crate::found_fault::{FoundFault, find_fault};
 use crate::lines::LineBuffer;
 use crate::rounded_reader::read_rounded;
 use bid_file::PackedFile;
+use cats_text::fault_finder::FaultLine;
+use cats_text::fault_place::place_of_fault;
 use cats_text::packed::{Header, finish_header, finish_packed};
-use cats_text::{Kind, ReadFault, Watched};
+use cats_text::{ReadFault, Watched};
 use commands::Input;
 use rounding::replacement::PriceRule;
 use rounding::text::{RoundedPrice, round_prices};
@@ -108,52 +112,57 @@ impl<R> PricedInput<R> {
 }
 
 impl<R: Read> PricedInput<R> {
-    /// Reads all bytes, and answers them with the text that is judged.
-    pub(crate) fn read_texts(&mut self, alloc: Global) -> Result<Texts, ReadFault>
+    /// Reads all bytes, and answers where the first fault is of the text that is judged. Unless prices are rounded, it keeps
+    /// a line of them.
+    pub(crate) fn find_fault(&mut self, alloc: Global) -> Result<Option<FoundFault>, ReadFault>
         requires { IsReady self.old }
-        ensures texts { AnswersTexts R.remaining self.old self.new (plain_texts result) }
+        ensures finds { FindsIn R.remaining self.old self.new result }
         ensures rounded { self.new.rounded ≡ none_rounded }
     {
-        let bytes = read_bytes(alloc, &mut self.stream)?;
         let Some(rule) = self.rule else {
-            return Ok(Texts {
-                bytes,
-                rounded: None,
-            });
+            return Ok(in_its_line(find_fault(alloc, &mut self.stream)?));
         };
-        match round_prices(alloc, bytes.as_slice(), rule) {
-            Ok(rounded) => Ok(Texts {
-                bytes,
-                rounded: Some(rounded.text),
-            }),
-            Err(AllocError) => Err(ReadFault::whole(Kind::Memory)),
-        }
+        let bytes = read_bytes(alloc, &mut self.stream)?;
+        Ok(find_rounded(alloc, bytes, rule)?)
     }
 }
 
-/// All bytes of a stream, and these with rounded prices, if prices are rounded.
-#[derive(Drop)]
-pub(crate) struct Texts {
+/// A fault with its line as the text.
+#[tactic(auto, using(crate::proofs::FoundFaults::in_line))]
+fn in_its_line(found: Option<FaultLine>) -> Option<FoundFault>
+    ensures { (bytes : List ℕ) → FindsFault bytes found → IsFound bytes bytes result }
+{
+    let Some(found) = found else {
+        return None;
+    };
+    Some(FoundFault {
+        line: found.line,
+        word: found.word,
+        kind: found.kind,
+        text: found.bytes,
+        line_of_text: 1,
+    })
+}
+
+/// Where the first fault of these bytes is once their prices are rounded.
+fn find_rounded(
+    alloc: Global,
     bytes: Vec<u8>,
-    rounded: Option<Vec<u8>>,
-}
-
-impl Texts {
-    pub(crate) fn bytes(&self) -> &[u8]
-        ensures { result.now ≡ self.now.bytes.items }
-    {
-        self.bytes.as_slice()
-    }
-
-    /// The text that is judged.
-    pub(crate) fn judged(&self) -> &[u8]
-        ensures { result.now ≡ judged_of self.now }
-    {
-        match &self.rounded {
-            Some(text) => text.as_slice(),
-            None => self.bytes.as_slice(),
-        }
-    }
+    rule: PriceRule,
+) -> Result<Option<FoundFault>, AllocError>
+    ensures { IfOk result (IsFound bytes.items (rounded_text rule bytes.items)) }
+{
+    let rounded = round_prices(alloc, bytes.as_slice(), rule)?;
+    let Some(place) = place_of_fault(alloc, rounded.text.as_slice())? else {
+        return Ok(None);
+    };
+    Ok(Some(FoundFault {
+        line: place.line,
+        word: place.word,
+        kind: place.kind,
+        text: bytes,
+        line_of_text: place.line,
+    }))
 }
 
 /// How many prices were rounded, and how many of them are 0 now.

@@ -1,6 +1,5 @@
 -- What rounding the bytes of a file answers.
-use Rattle.std.specs.Prelude.{◌≡◌, ◌⊎◌, ◌++◌, ℕ, List, Option, Some, None, Result, Ok, Err, Vec, true}
-use Rattle.std.specs.Global.{Global}
+use Rattle.std.specs.Prelude.{◌≡◌, ◌⊎◌, ◌++◌, ℕ, List, Option, Some, None, Result, Ok, Err, true}
 use Rattle.cats_text.specs.declared.read_fault.ReadFault.{ReadFault}
 use Rattle.cats_text.specs.declared.stream.Watched.{Watched}
 use Rattle.cats_text.specs.declared.read_fault.Kind.{Kind}
@@ -9,7 +8,6 @@ use Rattle.cats_text.specs.Fed.{Fed}
 use Rattle.cats_cmd.specs.Inputs.{ReadsAll}
 use Rattle.cats_cmd.specs.PricedInputs.{RefusesRounded, both_counts, rounded_count}
 use Rattle.cats_cmd.specs.declared.priced_input.RoundedCount.{RoundedCount}
-use Rattle.cats_cmd.specs.declared.priced_input.Texts.{Texts}
 use Rattle.cats_cmd.specs.declared.rounded_reader.RoundedReader.{RoundedReader}
 use Rattle.cats_text.specs.Faults.{fault_at, first_fault}
 use Rattle.canon.specs.declared.canon_fault.CanonFault.{CanonFault}
@@ -131,17 +129,3 @@ module _ {R : Type 0} (remaining : R → Option (List ℕ)) (rule : PriceRule) w
   abbrev pub ReadsRounded : Watched R → Watched R → Result (Fed × RoundedCount) ReadFault → Type 0
   ReadsRounded old new (Ok read) = ReadsText old new read
   ReadsRounded old new (Err fault) = RefusesRounded remaining rule old new fault
-
--- ---- all bytes, and the text that is judged
-
--- these with rounded prices, if prices are rounded
-abbrev pub rounded_or : Option (Vec ℕ Global) → List ℕ → List ℕ
-rounded_or (Some text) bytes = text.items
-rounded_or None bytes = bytes
-
-abbrev pub judged_of : Texts → List ℕ
-judged_of texts = rounded_or texts.rounded texts.bytes.items
-
-abbrev pub plain_texts : Result Texts ReadFault → Result (List ℕ × List ℕ) ReadFault
-plain_texts (Ok texts) = Ok (texts.bytes.items, judged_of texts)
-plain_texts (Err fault) = Err fault

@@ -1,9 +1,10 @@
 //! Commands on files whose prices are rounded.
 
 use super::each_command::{COMMANDS, FINE, prefixes, words_of};
+use super::inputs::answer_on_input;
 use super::memory::{Files, FilesInMemory, Row, judge_rows};
 use super::program::{CAPACITY, run};
-use super::streams::{expect, writer};
+use super::streams::{StepReader, expect, writer};
 use cats_cmd::program::{Process, run_program};
 use std::process::Abort;
 use std::test::Fail;
@@ -102,6 +103,20 @@ fn files_with_rounded_prices(rt: HostRuntime) -> Result<(), Fail> {
         };
         judge_rows(&rt, FILES, &[(line.as_str(), 0, printed, reported)], false)?;
     }
+    Ok(())
+}
+
+#[test]
+fn rounded_in_pieces(rt: HostRuntime) -> Result<(), Fail> {
+    let stream = StepReader {
+        text: b"goods 1\nbids 2\ndummy 0\n0 1e-7 0 #\n1 1.5e1 0 #\n",
+        step: 1,
+        failure: None,
+    };
+    let out = writer(rt.alloc(), 7, 4096);
+    let answer = answer_on_input(rt.alloc(), "cats show --round a", stream, out)?;
+    let printed = "goods 1\nbids 2\ndummy 0\n0\t0\t0\t#\n1\t15\t0\t#\n";
+    expect(&rt, &answer, 0, printed, "a: 1 price rounded, 1 to 0\n");
     Ok(())
 }
 

@@ -1,21 +1,14 @@
 -- `read_bytes`
-use Rattle.cats_cmd.proofs.Common.{arith, ◌<◌, length, ◌∙◌, inl, inr}
-use Rattle.cats_cmd.proofs.ReadingBytes.{bytes_wanted, no_more, not_at_the_end, at_the_end, too_many}
+use Rattle.cats_cmd.proofs.Common.{arith, ◌∙◌, inl, inr}
+use Rattle.cats_cmd.proofs.ReadingBytes.{all_read, bytes_wanted, not_at_the_end, too_many}
 use Rattle.cats_cmd.proofs.bytes.read_bytes.Goals as goal
 
 pub returns-in-Ok-eq0 : goal.returns-in-Ok-eq0
 returns-in-Ok-eq0 g c =
-    let none = c.in-Ok-eq0.field-0-test in
     let kept = c.loop-text.invariant in
     let gave = c.in-Ok-eq0.ensures in
-    let not_empty : 0 < length c.read.new.piece = rw c.read.auto.piece kept.not_empty in
-    record {
-      consumes = no_more _ _ _ c.loop-text.text.items c.read.new.piece c.in-Ok-eq0.field-0 none kept.came gave.bytes.0;
-      within = kept.within;
-      ended = gave.ended ∙ at_the_end _ c.in-Ok-eq0.field-0 c.read.new.piece none not_empty;
-      at_end = gave.bytes.1 none not_empty;
-      works = gave.failed;
-    }
+    all_read g.R.Read.remaining c.args.input.now c.loop-text.input c.read.new.self c.loop-text.text.items c.read.new.piece c.in-Ok-eq0.field-0
+    c.in-Ok-eq0.field-0-test (rw c.read.auto.piece kept.not_empty) kept.came gave.bytes.0 gave.bytes.1 gave.ended gave.failed kept.within
 
 pub returns-then-count-len : goal.returns-then-count-len
 returns-then-count-len g c =
