@@ -38,7 +38,8 @@ auction. For example:
 A step is one family of bids below a bundle that the search on this bundle
 enters; each bundle has N of them. If one takes more, 'step limit at GOODS' is
 reported, with status 3. The bounded search decides many files that the plain
-search refuses, and its answer is the same. If it takes more steps too, a
+search refuses, and its answer is the same; a look at many bids there counts as
+one step more for each 1,000 of their goods. If it takes more steps too, a
 greater N lets the search go on:
   $ cats normalise --bound auction.txt
   $ cats normalise --bound --steps 1000000000 auction.txt

@@ -90,7 +90,7 @@ pub use Rattle.valuation.specs.Lemmas.XorValues.{xor_value-nil, xor_value-inside
 pub use Rattle.valuation.specs.Packings.{atom_at, atoms_inside, atoms_at, indices_inside, is_inside_at, numbers_at}
 pub use Rattle.valuation.specs.SearchLimits.{is_one_over, options_after, options_after_all, plain_options}
 pub use Rattle.valuation.specs.SearchSteps.{found_indices}
-pub use Rattle.valuation.specs.Searches.{bound_of, AreSearched, IsFound, IsSearchedBy}
+pub use Rattle.valuation.specs.Searches.{steps_of, AreSearched, IsFound, IsSearchedBy}
 pub use Rattle.valuation.specs.Values.{atoms_of, plain_atom, or_value, xor_value}
 pub use Rattle.valuation.specs.declared.atom.Atom.{Atom}
 pub use Rattle.valuation.specs.declared.packing.ValueFault.{ValueFault}

@@ -3,13 +3,12 @@
 use Rattle.prune.proofs.Common.{rules, ◌≡◌, ℕ, ◌+◌, ◌<◌, false, true, ltb, ⊎_elim, List, [], ◌∷◌, ◌++◌, map, sym, ap, ap₂, ◌∙◌, subst, arith, Some, None, Less}
 use Rattle.prune.proofs.Common.{All, Contains, AllByRecursion, lt-ltb, ltb-false, ltb-true, All-head, All-tail, All-contains, Contains-append_right}
 use Rattle.prune.proofs.Common.{IsStrictlySortedBy-filter, all_bundles, bundle_cmp, bundle_cmp_strict, all_bundles_has, all_bundles_sorted, same_from_contains}
-use Rattle.prune.proofs.Common.{Atom, SearchKind, SearchOptions, IsAtom, bound_of, is_one_over, options_after, options_after_all, is_one_over-one}
+use Rattle.prune.proofs.Common.{Atom, SearchKind, SearchOptions, IsAtom, steps_of, is_one_over, options_after, options_after_all, is_one_over-one}
 use Rattle.prune.proofs.Common.{options_after_all-one, Contains-cons_cases, Contains-map, Contains-unmap, AllPairs-head, AllPairs-tail}
 use Rattle.prune.proofs.Common.{or_points, is_below, atoms_below, greatest_price, in_search_order, searched_bundles, IsBefore, IsInOrder}
 use Rattle.prune.proofs.Common.{AreBestBids, IsOnBundle, Contains-head, Contains-tail, Contains-filter, Contains-filter_parts, All-from_Contains}
 use Rattle.prune.proofs.Common.{on_bundles, or_is_value, first_over-refused, first_over-within, atoms_inside, steps_for}
 use Rattle.std.specs.List.Sorted.{IsStrictlySortedBy}
-use Rattle.valuation.specs.SearchSteps.{cut_steps as steps_with}
 use Rattle.prune.specs.SearchSteps.{search_steps_by, first_over, first_refused}
 use Rattle.prune.proofs.Pruning.{HasRisingBundle, IsKept, completion, later_not_below, not_below_itself, behind_next}
 use Rattle.prune.proofs.Results.{IsTurn, turn_below, all_done, best_on, best_price}
@@ -43,7 +42,7 @@ best_searched goods bids best on b =
 
 pub turn_steps : (kind : SearchKind) (goods : ℕ) (bids done : List (Atom (List ℕ))) (x : Atom (List ℕ)) (rest kept : List (Atom (List ℕ)))
     → All (IsOnBundle goods) bids → IsTurn bids done x rest → IsKept or_is_value done kept
-    → 1 + steps_with (bound_of kind) (in_search_order kind (atoms_inside kept x.bundle)) x.bundle x.price ≡ search_steps_by kind goods bids x.bundle
+    → steps_of kind (in_search_order kind (atoms_inside kept x.bundle)) x.bundle x.price ≡ search_steps_by kind goods bids x.bundle
 unfolding search_steps_by
 turn_steps kind goods bids done x rest kept on t k =
     let best = done ++ x ∷ rest in
@@ -61,7 +60,7 @@ turn_steps kind goods bids done x rest kept on t k =
     (Contains-cons_cases x rest a c))) ∙ sym (turn_below bids done x rest kept t k.among) in
     let inside : atoms_inside kept x.bundle ≡ atoms_below (or_points goods bids) x.bundle =
     sym below ∙ ap (λ (zs : List (Atom (List ℕ))). atoms_below zs x.bundle) points in
-    ap₂ (λ (zs : List (Atom (List ℕ))) (n : ℕ). 1 + steps_with (bound_of kind) (in_search_order kind zs) x.bundle n) inside (sym price)
+    ap₂ (λ (zs : List (Atom (List ℕ))) (n : ℕ). steps_of kind (in_search_order kind zs) x.bundle n) inside (sym price)
 
 -- ---- the limits along the loop
 

@@ -1,11 +1,13 @@
 //! Laws of the definitions, which the check proves.
-ghost use Rattle.std.specs.Prelude.{◌≡◌, ℕ, ◌<◌, ◌≤◌, ◌↔◌, true, false, IfSome, Some, None, List, [], All, Contains, sum_by};
+ghost use Rattle.std.specs.Prelude.{◌≡◌, ℕ, ◌*◌, ◌<◌, ◌≤◌, ◌↔◌, true, false, IfSome, Some, None, List, [], All, Contains};
+ghost use Rattle.std.specs.Prelude.{sum_by};
 ghost use Rattle.goods_set.specs.Bundles.{IsBundle};
 ghost use Rattle.valuation.specs.Auctions.{IsAtom};
 ghost use Rattle.valuation.specs.declared.atom.Atom.{Atom};
 ghost use Rattle.valuation.specs.declared.search.kind.SearchKind.{SearchKind};
 ghost use Rattle.valuation.specs.declared.search.options.SearchOptions.{SearchOptions};
 ghost use Rattle.valuation.specs.SearchLimits.{plain_options};
+ghost use Rattle.valuation.specs.Searches.{steps_each};
 ghost use Rattle.valuation.specs.Packings.{IsPackingFor, count_packings};
 ghost use Rattle.valuation.specs.Tables.{xor_table, or_table, is_nonzero};
 ghost use Rattle.valuation.specs.Values.{xor_value, or_value};
@@ -15,7 +17,7 @@ ghost use Rattle.prune.specs.Reached.{IsPointFor};
 ghost use Rattle.prune.specs.SearchSteps.{
   atoms_below,
   greatest_price,
-  steps_at_most,
+  steps_at_most_by,
   search_steps_by,
   is_heavy,
   first_heavy,
@@ -69,13 +71,14 @@ pub fn points_of_points()
         → or_points goods (or_points goods atoms) ≡ or_points goods atoms }
 {}
 
-/// A search of either kind takes no more steps than the bundle has packings by the points below it, nor than it has by
-/// all bids below it.
+/// A search of either kind takes so many steps at most for each packing of the bundle by the points below it, and by all
+/// bids below it.
 pub fn steps_are_bounded()
     ensures cut { (kind : SearchKind) (goods : ℕ) (atoms : List (Atom (List ℕ))) (bundle : List ℕ)
-        → search_steps_by kind goods atoms bundle ≤ count_packings (atoms_below (or_points goods atoms) bundle) bundle }
+        → let below = atoms_below (or_points goods atoms) bundle in
+        search_steps_by kind goods atoms bundle ≤ count_packings below bundle * steps_each kind below }
     ensures load { (kind : SearchKind) (goods : ℕ) (atoms : List (Atom (List ℕ))) → All (IsAtom goods) atoms
-        → (bundle : List ℕ) → search_steps_by kind goods atoms bundle ≤ steps_at_most atoms bundle }
+        → (bundle : List ℕ) → search_steps_by kind goods atoms bundle ≤ steps_at_most_by kind atoms bundle }
 {}
 
 /// A bundle that is heavy for the points is heavy for all bids: where a point is, the search of either kind takes the

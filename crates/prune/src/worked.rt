@@ -14,6 +14,7 @@ ghost use Rattle.prune.specs.SearchSteps.{
   cut_steps,
   in_search_order,
   steps_at_most,
+  steps_at_most_by,
   search_steps_by,
   search_steps,
   is_heavy,
@@ -67,6 +68,8 @@ pub fn steps_worked()
         ∷ atom (0 ∷ 1 ∷ 2 ∷ []) 4 ∷ []) (0 ∷ 1 ∷ 2 ∷ []) ≡ 1 }
     ensures all_packings { steps_at_most (atom (0 ∷ []) 1 ∷ atom (1 ∷ []) 1 ∷ atom (2 ∷ []) 1
         ∷ atom (0 ∷ 1 ∷ 2 ∷ []) 4 ∷ []) (0 ∷ 1 ∷ 2 ∷ []) ≡ 8 }
+    ensures all_goods { steps_at_most_by Bounded (atom (0 ∷ []) 1 ∷ atom (1 ∷ []) 1 ∷ atom (2 ∷ []) 1
+        ∷ atom (0 ∷ 1 ∷ 2 ∷ []) 4 ∷ []) (0 ∷ 1 ∷ 2 ∷ []) ≡ 8 }
     ensures three_reach { search_steps 3 (atom (0 ∷ []) 2 ∷ atom (1 ∷ []) 2 ∷ atom (2 ∷ []) 2
         ∷ atom (0 ∷ 1 ∷ 2 ∷ []) 5 ∷ []) (0 ∷ 1 ∷ 2 ∷ []) ≡ 4 }
     ensures two_reach { search_steps 2 (atom (0 ∷ []) 3 ∷ atom (1 ∷ []) 4 ∷ atom (0 ∷ 1 ∷ []) 7 ∷ []) (0 ∷ 1 ∷ []) ≡ 3 }
@@ -104,7 +107,7 @@ pub fn fates_worked()
 {}
 
 /// The steps of the searches of each kind.
-#[tactic(auto, unfolding(crate::specs::Points::points_where, crate::specs::Points::is_or_point, crate::specs::SearchSteps::search_steps_by, valuation::specs::SearchSteps::cut_steps, valuation::specs::Values::or_value, valuation::specs::Bounds::greatest_rate, valuation::specs::Bounds::rate_bound))]
+#[tactic(auto, unfolding(crate::specs::Points::points_where, crate::specs::Points::is_or_point, crate::specs::SearchSteps::search_steps_by, valuation::specs::SearchSteps::cut_steps, valuation::specs::Values::or_value, valuation::specs::Bounds::greatest_rate, valuation::specs::Bounds::rate_bound, valuation::specs::SearchSteps::look_steps, valuation::specs::Looks::goods_by_both, valuation::specs::Looks::goods_by_rates))]
 pub fn kinds_worked()
     ensures plain_order { let a = atom (0 ∷ []) 3 ∷ atom (1 ∷ []) 4 ∷ [] in in_search_order Plain a ≡ a }
     ensures bounded_order { in_search_order Bounded (atom (0 ∷ []) 3 ∷ atom (1 ∷ []) 4 ∷ [])
@@ -115,14 +118,16 @@ pub fn kinds_worked()
         ∷ atom (0 ∷ 1 ∷ 2 ∷ []) 7 ∷ []) (0 ∷ 1 ∷ 2 ∷ []) ≡ 1 }
     ensures prices_reach { search_steps_by Plain 3 (atom (0 ∷ 1 ∷ []) 4 ∷ atom (0 ∷ 2 ∷ []) 4 ∷ atom (1 ∷ 2 ∷ []) 4
         ∷ atom (0 ∷ 1 ∷ 2 ∷ []) 7 ∷ []) (0 ∷ 1 ∷ 2 ∷ []) ≡ 3 }
-    ensures rate_rounded_up { search_steps_by Bounded 3 (atom (0 ∷ 1 ∷ []) 1 ∷ atom (2 ∷ []) 1
+    ensures rate_rounded_up { search_steps_by Bounded 3 (atom (0 ∷ 1 ∷ []) 1 ∷ atom (0 ∷ 2 ∷ []) 1 ∷ atom (1 ∷ 2 ∷ []) 1
         ∷ atom (0 ∷ 1 ∷ 2 ∷ []) 3 ∷ []) (0 ∷ 1 ∷ 2 ∷ []) ≡ 2 }
+    ensures prices_first { search_steps_by Bounded 3 (atom (0 ∷ 1 ∷ []) 1 ∷ atom (2 ∷ []) 1
+        ∷ atom (0 ∷ 1 ∷ 2 ∷ []) 3 ∷ []) (0 ∷ 1 ∷ 2 ∷ []) ≡ 1 }
     ensures prices_too_low { search_steps_by Plain 3 (atom (0 ∷ 1 ∷ []) 1 ∷ atom (2 ∷ []) 1
         ∷ atom (0 ∷ 1 ∷ 2 ∷ []) 3 ∷ []) (0 ∷ 1 ∷ 2 ∷ []) ≡ 1 }
 {}
 
 /// The bundles that a pruning searches, and the first that it refuses.
-#[tactic(auto, unfolding(crate::specs::Points::points_where, crate::specs::Points::is_or_point, crate::specs::SearchSteps::search_steps_by, crate::specs::SearchSteps::first_over, crate::specs::SearchSteps::first_refused, valuation::specs::SearchSteps::cut_steps, valuation::specs::Values::or_value, valuation::specs::Bounds::greatest_rate, valuation::specs::Bounds::rate_bound))]
+#[tactic(auto, unfolding(crate::specs::Points::points_where, crate::specs::Points::is_or_point, crate::specs::SearchSteps::search_steps_by, crate::specs::SearchSteps::first_over, crate::specs::SearchSteps::first_refused, valuation::specs::SearchSteps::cut_steps, valuation::specs::Values::or_value, valuation::specs::Bounds::greatest_rate, valuation::specs::Bounds::rate_bound, valuation::specs::SearchSteps::look_steps, valuation::specs::Looks::goods_by_both, valuation::specs::Looks::goods_by_rates))]
 pub fn refused_worked()
     ensures searched { searched_bundles 2 (atom (1 ∷ []) 4 ∷ atom (0 ∷ []) 0 ∷ atom (0 ∷ 1 ∷ []) 7 ∷ [])
         ≡ (1 ∷ []) ∷ (0 ∷ 1 ∷ []) ∷ [] }

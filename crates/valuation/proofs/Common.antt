@@ -40,7 +40,7 @@ pub use Rattle.std.specs.Prelude.{IfSome, All, AllPairs, IsPermutation, Option, 
 pub use Rattle.std.specs.Prelude.{OnOk}
 pub use Rattle.valuation.specs.Auctions.{IsAtom, atom_of, or_atoms_of, xor_atoms_of, auction_from}
 pub use Rattle.valuation.specs.Bidders.{bidders_of, plain_auction_of}
-pub use Rattle.valuation.specs.Bounds.{IsOnGoods, rate, greatest_rate, rate_bound, IsBound, price_bound}
+pub use Rattle.valuation.specs.Bounds.{IsOnGoods, rate, greatest_rate, rate_bound, IsBound, lesser_bound, price_bound}
 pub use Rattle.valuation.specs.Internal.ValueSearch.{IsPackingFrom, is_candidate}
 pub use Rattle.valuation.specs.Internal.Conflicts.{AreConflicts, KnowsHolders, AreHolders, IsLeft, AreLeft, AreFree, AreSharing, AreAll, are_disjoint}
 pub use Rattle.valuation.specs.Internal.Conflicts.{offers_of}
@@ -66,17 +66,19 @@ pub use Rattle.valuation.specs.Lemmas.Permutations.{from_permutation}
 pub use Rattle.valuation.specs.Lemmas.SearchLimits.{options_after_all-one, is_one_over-one}
 pub use Rattle.valuation.specs.Lemmas.SearchSteps.{cut_steps-zero, cut_steps-short, cut_steps-outside, cut_steps-reached, cut_steps-missed, found_indices-zero}
 pub use Rattle.valuation.specs.Lemmas.SearchSteps.{found_indices-taken, found_indices-outside, found_indices-missed, cut_steps-nil, cut_within_packings}
-pub use Rattle.valuation.specs.Lemmas.SearchSteps.{found_indices-packing}
+pub use Rattle.valuation.specs.Lemmas.SearchSteps.{found_indices-packing, look_steps-nil, look_steps-zero, look_steps-outside, look_steps-short}
+pub use Rattle.valuation.specs.Lemmas.SearchSteps.{look_steps-reached, look_steps-missed, look_steps-none, steps_within_packings}
 pub use Rattle.valuation.specs.Lemmas.Searches.{searched, search-refused}
 pub use Rattle.valuation.specs.Lemmas.Sorting.{sorted_is_sort_by, permutation-sort_by, sorted-sort_by, sorted_same}
 pub use Rattle.valuation.specs.Lemmas.XorValues.{xor_value-nil, xor_value-inside, xor_value-outside, xor_value-grows, xor_value-permutation}
 pub use Rattle.valuation.specs.Listed.{listed, AreListsOf}
 pub use Rattle.valuation.specs.Lemmas.Inside.{atoms_at-indices_inside, indices_inside-within}
+pub use Rattle.valuation.specs.Looks.{charge, goods_by_both, goods_by_rates, goods_steps, goods_sum, is_looked_at, no_goods}
 pub use Rattle.valuation.specs.Packings.{indices_inside, is_inside_at, atom_at, count_packings, atoms_inside, numbers_at, atoms_at, price_sum, IsPackingFor}
 pub use Rattle.valuation.specs.Packings.{IsPacking}
 pub use Rattle.valuation.specs.SearchLimits.{is_one_over, options_after, options_after_all, next_steps, total_after}
 pub use Rattle.valuation.specs.SearchSteps.{cut_steps, found_indices}
-pub use Rattle.valuation.specs.Searches.{AreSearched, IsFound, IsSearchedBy, bound_of}
+pub use Rattle.valuation.specs.Searches.{AreSearched, IsFound, IsSearchedBy, bound_of, steps_each, steps_of}
 pub use Rattle.valuation.specs.Sorting.{sort_by}
 pub use Rattle.valuation.specs.Values.{or_value, chosen_indices, xor_value, IsFirstBest, atoms_of, plain_atom}
 pub use Rattle.valuation.specs.declared.atom.Atom.{Atom}

@@ -6,6 +6,7 @@ pub mod Inside
 pub mod Limits
 pub mod Listed
 pub mod Lists
+pub mod Looks
 pub mod OrValues
 pub mod Orders
 pub mod PackingCounts

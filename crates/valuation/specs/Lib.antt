@@ -2,6 +2,7 @@
 pub mod Values
 pub mod Packings
 pub mod Bounds
+pub mod Looks
 pub mod SearchSteps
 pub mod SearchLimits
 pub mod Tables

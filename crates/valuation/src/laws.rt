@@ -1,5 +1,5 @@
 //! Laws of the definitions, which the check proves.
-ghost use Rattle.std.specs.Prelude.{◌≡◌, ℕ, ◌+◌, ◌<◌, ◌≤◌, List, ◌∷◌, length, All, IsPermutation, IsSorted};
+ghost use Rattle.std.specs.Prelude.{◌≡◌, ℕ, ◌+◌, ◌*◌, ◌<◌, ◌≤◌, List, ◌∷◌, length, All, IsPermutation, IsSorted};
 ghost use Rattle.std.specs.Cmp.{IsTotalOrder};
 ghost use Rattle.std.specs.declared.cmp.Ordering.TheVariants.{Equal};
 ghost use Rattle.goods_set.specs.Bundles.{IsInside, IsRising, AreApart};
@@ -7,7 +7,9 @@ ghost use Rattle.bid_file.specs.Files.{PlainFile, IsPlainFile};
 ghost use Rattle.valuation.specs.declared.atom.Atom.{Atom};
 ghost use Rattle.valuation.specs.Values.{xor_value, or_value, chosen_indices};
 ghost use Rattle.valuation.specs.Packings.{atoms_at, price_sum, count_packings, IsPacking, IsBestPacking, AreThePackings};
-ghost use Rattle.valuation.specs.Bounds.{price_bound, rate_bound, IsOnGoods};
+ghost use Rattle.valuation.specs.Bounds.{price_bound, rate_bound, lesser_bound, IsOnGoods};
+ghost use Rattle.valuation.specs.declared.search.kind.SearchKind.{SearchKind};
+ghost use Rattle.valuation.specs.Searches.{steps_each, steps_of};
 ghost use Rattle.valuation.specs.SearchSteps.{cut_steps, found_indices};
 ghost use Rattle.valuation.specs.Orders.{atom_cmp, bidder_cmp};
 ghost use Rattle.valuation.specs.Sorting.{sort_by};
@@ -53,21 +55,25 @@ pub fn or_value_laws()
 {}
 
 /// No packing of a bundle has a greater price sum than all prices together, nor, where each atom is on some goods, than
-/// the rates of the bundle's goods together.
+/// the rates of the bundle's goods together, nor than the lesser of both.
 pub fn bound_laws()
     ensures prices { (atoms : List (Atom (List ℕ))) (bundle : List ℕ) → or_value atoms bundle ≤ price_bound atoms bundle }
     ensures rates { (atoms : List (Atom (List ℕ))) (bundle : List ℕ) → All IsOnGoods atoms → IsRising bundle
         → or_value atoms bundle ≤ rate_bound atoms bundle }
+    ensures lesser { (atoms : List (Atom (List ℕ))) (bundle : List ℕ) → All IsOnGoods atoms → IsRising bundle
+        → or_value atoms bundle ≤ lesser_bound atoms bundle }
 {}
 
 /// What a search finds is a packing that reaches the price, if there is one. Whatever it takes the atoms that are left
-/// to add up to, it takes no more steps than there are packings; nor does any search for a value.
+/// to add up to, it enters no more packings than there are; and a search of a kind takes so many steps at most for each.
 pub fn search_laws()
     ensures found { (atoms : List (Atom (List ℕ))) (bundle : List ℕ) (price : ℕ) → price ≤ or_value atoms bundle
         → IsPacking atoms bundle (found_indices atoms bundle price)
         × (price ≤ price_sum (atoms_at atoms (found_indices atoms bundle price))) }
     ensures steps { (left : List (Atom (List ℕ)) → List ℕ → ℕ) (atoms : List (Atom (List ℕ))) (bundle : List ℕ) (price : ℕ)
         → 1 + cut_steps left atoms bundle price ≤ count_packings atoms bundle }
+    ensures by_kind { (kind : SearchKind) (atoms : List (Atom (List ℕ))) (bundle : List ℕ) (price : ℕ)
+        → steps_of kind atoms bundle price ≤ count_packings atoms bundle * steps_each kind atoms }
 {}
 
 /// The orders of atoms and of bidders are total, and answer Equal only for equal ones.

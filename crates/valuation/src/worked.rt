@@ -6,11 +6,13 @@ ghost use Rattle.valuation.specs.Examples.{atom};
 ghost use Rattle.valuation.specs.Values.{xor_value, or_value, chosen_indices};
 ghost use Rattle.valuation.specs.Internal.Reaching.{ArePricesLeft, Continues};
 ghost use Rattle.valuation.specs.Packings.{count_packings, IsPackingFor, numbers_at};
-ghost use Rattle.valuation.specs.Bounds.{price_bound, rate, greatest_rate, rate_bound};
-ghost use Rattle.valuation.specs.SearchSteps.{cut_steps, found_indices};
+ghost use Rattle.valuation.specs.Bounds.{price_bound, rate, greatest_rate, rate_bound, lesser_bound};
+ghost use Rattle.valuation.specs.Looks.{charge, goods_by_both, goods_by_rates, goods_steps, goods_sum, no_goods};
+ghost use Rattle.valuation.specs.Searches.{steps_each, steps_of};
+ghost use Rattle.valuation.specs.SearchSteps.{cut_steps, found_indices, look_steps};
 ghost use Rattle.valuation.specs.SearchLimits.{plain_options, bounded_options, next_steps, options_after, is_one_over};
 ghost use Rattle.valuation.specs.SearchLimits.{options_after_all};
-ghost use Rattle.valuation.specs.ValueLimits.{charge, goods_sum, most_value_steps, steps_a_packing};
+ghost use Rattle.valuation.specs.ValueLimits.{most_value_steps, steps_a_packing};
 ghost use Rattle.valuation.specs.Internal.ValueSearch.{is_candidate, look_charge};
 ghost use Rattle.valuation.specs.Tables.{or_table, xor_table, is_nonzero};
 ghost use Rattle.valuation.specs.Orders.{atom_cmp, bidder_cmp};
@@ -76,6 +78,9 @@ pub fn bounds_worked()
     ensures rounded_rates { rate_bound (atom (0 ∷ 1 ∷ []) 3 ∷ []) (0 ∷ 1 ∷ []) ≡ 4 }
     ensures rates_inside { let a = atom (0 ∷ 1 ∷ []) 4 ∷ atom (1 ∷ 2 ∷ []) 6 ∷ [] in rate_bound a (0 ∷ 1 ∷ []) ≡ 4 }
     ensures all_prices { let a = atom (0 ∷ 1 ∷ []) 4 ∷ atom (1 ∷ 2 ∷ []) 6 ∷ [] in price_bound a (0 ∷ 1 ∷ []) ≡ 10 }
+    ensures lesser_rates { let a = atom (0 ∷ 1 ∷ []) 4 ∷ atom (0 ∷ 2 ∷ []) 4 ∷ atom (1 ∷ 2 ∷ []) 4 ∷ [] in
+        lesser_bound a (0 ∷ 1 ∷ 2 ∷ []) ≡ 6 }
+    ensures lesser_prices { lesser_bound (atom (0 ∷ 1 ∷ []) 3 ∷ []) (0 ∷ 1 ∷ []) ≡ 3 }
 {}
 
 /// How many families a search enters, without the empty one, and what it finds.
@@ -92,6 +97,7 @@ pub fn searches_worked()
         cut_steps rate_bound a (0 ∷ 1 ∷ 2 ∷ []) 7 ≡ 0 }
     ensures equal_rates { let a = atom (0 ∷ 1 ∷ []) 4 ∷ atom (0 ∷ 2 ∷ []) 4 ∷ atom (1 ∷ 2 ∷ []) 4 ∷ [] in
         cut_steps rate_bound a (0 ∷ 1 ∷ 2 ∷ []) 6 ≡ 2 }
+    ensures by_both { cut_steps lesser_bound (atom (0 ∷ 1 ∷ []) 3 ∷ []) (0 ∷ 1 ∷ []) 4 ≡ 0 }
     ensures found_both { let a = atom (0 ∷ []) 3 ∷ atom (1 ∷ []) 4 ∷ atom (0 ∷ 1 ∷ []) 7 ∷ [] in
         found_indices a (0 ∷ 1 ∷ []) 7 ≡ 0 ∷ 1 ∷ [] }
     ensures found_first { let a = atom (0 ∷ []) 3 ∷ atom (1 ∷ []) 4 ∷ atom (0 ∷ 1 ∷ []) 7 ∷ [] in
@@ -100,6 +106,42 @@ pub fn searches_worked()
         found_indices a (0 ∷ 1 ∷ []) 7 ≡ 1 ∷ 2 ∷ [] }
     ensures outside_left { let a = atom (2 ∷ []) 9 ∷ atom (0 ∷ []) 3 ∷ [] in found_indices a (0 ∷ 1 ∷ []) 3 ≡ 1 ∷ [] }
     ensures found_none { found_indices (atom (0 ∷ []) 3 ∷ []) (0 ∷ []) 0 ≡ [] }
+{}
+
+/// How many goods a look goes over, and the steps that the looks of a search are charged.
+#[tactic(auto, unfolding(crate::specs::SearchSteps::cut_steps, crate::specs::SearchSteps::look_steps, crate::specs::Looks::goods_by_rates, crate::specs::Looks::goods_by_both, crate::specs::Bounds::greatest_rate, crate::specs::Bounds::rate_bound, crate::specs::Values::or_value))]
+pub fn looks_worked()
+    ensures fewer_than_thousand { goods_steps 999 ≡ 0 }
+    ensures thousand { goods_steps 1000 ≡ 1 }
+    ensures rounded_down { goods_steps 2999 ≡ 2 }
+    ensures first_is_enough { let a = atom (0 ∷ 1 ∷ []) 4 ∷ atom (2 ∷ []) 3 ∷ atom (0 ∷ 3 ∷ []) 8 ∷ [] in
+        goods_by_rates a (0 ∷ 1 ∷ 2 ∷ 3 ∷ []) 4 ≡ 2 }
+    ensures two { let a = atom (0 ∷ 1 ∷ []) 4 ∷ atom (2 ∷ []) 3 ∷ atom (0 ∷ 3 ∷ []) 8 ∷ [] in
+        goods_by_rates a (0 ∷ 1 ∷ 2 ∷ 3 ∷ []) 7 ≡ 3 }
+    ensures all { let a = atom (0 ∷ 1 ∷ []) 4 ∷ atom (2 ∷ []) 3 ∷ atom (0 ∷ 3 ∷ []) 8 ∷ [] in
+        goods_by_rates a (0 ∷ 1 ∷ 2 ∷ 3 ∷ []) 8 ≡ 5 }
+    ensures not_enough { let a = atom (0 ∷ 1 ∷ []) 4 ∷ atom (2 ∷ []) 3 ∷ atom (0 ∷ 3 ∷ []) 8 ∷ [] in
+        goods_by_rates a (0 ∷ 1 ∷ 2 ∷ 3 ∷ []) 100 ≡ 5 }
+    ensures not_inside { let a = atom (0 ∷ 1 ∷ []) 4 ∷ atom (2 ∷ []) 3 ∷ atom (0 ∷ 3 ∷ []) 8 ∷ [] in
+        goods_by_rates a (0 ∷ 2 ∷ 3 ∷ []) 100 ≡ 3 }
+    ensures prices_reach { let a = atom (0 ∷ 1 ∷ []) 4 ∷ atom (2 ∷ []) 3 ∷ atom (0 ∷ 3 ∷ []) 8 ∷ [] in
+        goods_by_both a (0 ∷ 1 ∷ 2 ∷ 3 ∷ []) 15 ≡ 5 }
+    ensures prices_too_low { let a = atom (0 ∷ 1 ∷ []) 4 ∷ atom (2 ∷ []) 3 ∷ atom (0 ∷ 3 ∷ []) 8 ∷ [] in
+        goods_by_both a (0 ∷ 1 ∷ 2 ∷ 3 ∷ []) 16 ≡ 0 }
+    ensures each_look { look_steps price_bound (λ _ _ _. 2500) (atom (0 ∷ []) 3 ∷ atom (1 ∷ []) 4 ∷ []) (0 ∷ 1 ∷ []) 7 ≡ 4 }
+    ensures one_look { look_steps price_bound (λ _ _ _. 2500) (atom (0 ∷ []) 3 ∷ atom (1 ∷ []) 4 ∷ []) (0 ∷ 1 ∷ []) 8 ≡ 2 }
+    ensures outside { look_steps price_bound (λ _ _ _. 2500) (atom (0 ∷ []) 3 ∷ atom (1 ∷ []) 4 ∷ []) (1 ∷ []) 4 ≡ 2 }
+    ensures missed { let a = atom (0 ∷ []) 3 ∷ atom (0 ∷ 1 ∷ []) 6 ∷ atom (1 ∷ []) 2 ∷ [] in
+        look_steps price_bound (λ _ _ _. 2500) a (0 ∷ 1 ∷ []) 7 ≡ 8 }
+    ensures no_price { look_steps price_bound (λ _ _ _. 2500) (atom (0 ∷ []) 3 ∷ []) (0 ∷ []) 0 ≡ 0 }
+    ensures few_goods { look_steps price_bound (λ _ _ _. 999) (atom (0 ∷ []) 3 ∷ atom (1 ∷ []) 4 ∷ []) (0 ∷ 1 ∷ []) 7 ≡ 0 }
+    ensures nothing_looked_at { look_steps price_bound no_goods (atom (0 ∷ []) 3 ∷ []) (0 ∷ []) 3 ≡ 0 }
+    ensures plain { let a = atom (0 ∷ 1 ∷ []) 4 ∷ atom (0 ∷ 2 ∷ []) 4 ∷ atom (1 ∷ 2 ∷ []) 4 ∷ [] in
+        steps_of Plain a (0 ∷ 1 ∷ 2 ∷ []) 7 ≡ 3 }
+    ensures bounded { let a = atom (0 ∷ 1 ∷ []) 4 ∷ atom (0 ∷ 2 ∷ []) 4 ∷ atom (1 ∷ 2 ∷ []) 4 ∷ [] in
+        steps_of Bounded a (0 ∷ 1 ∷ 2 ∷ []) 6 ≡ 3 }
+    ensures plain_packing { steps_each Plain (atom (0 ∷ []) 3 ∷ []) ≡ 1 }
+    ensures bounded_packing { steps_each Bounded (atom (0 ∷ []) 3 ∷ []) ≡ 1 }
 {}
 
 /// The limits of searches: each may take so many steps, and all together so many, if that has a limit.
@@ -190,9 +232,9 @@ fn reaching_worked()
 {}
 
 /// What a search from an index on answers, by the members and the steps that are left before and after it.
-#[tactic(auto, unfolding(crate::specs::SearchSteps::cut_steps, crate::specs::SearchSteps::found_indices, crate::specs::Values::or_value))]
+#[tactic(auto, unfolding(crate::specs::SearchSteps::cut_steps, crate::specs::SearchSteps::look_steps, crate::specs::SearchSteps::found_indices, crate::specs::Values::or_value))]
 fn searched_worked()
-    ensures reached { Continues price_bound (atom (0 ∷ []) 3 ∷ []) 0 (0 ∷ []) 3 [] (0 ∷ []) 5 4 (Ok true) }
-    ensures answer { ¬ Continues price_bound (atom (0 ∷ []) 3 ∷ []) 0 (0 ∷ []) 3 [] (0 ∷ []) 5 4 (Ok false) }
-    ensures fewer_steps { ¬ Continues price_bound (atom (0 ∷ []) 3 ∷ []) 0 (0 ∷ []) 4 [] [] 5 4 (Ok false) }
+    ensures reached { Continues price_bound no_goods (atom (0 ∷ []) 3 ∷ []) 0 (0 ∷ []) 3 [] (0 ∷ []) 5 4 (Ok true) }
+    ensures answer { ¬ Continues price_bound no_goods (atom (0 ∷ []) 3 ∷ []) 0 (0 ∷ []) 3 [] (0 ∷ []) 5 4 (Ok false) }
+    ensures fewer_steps { ¬ Continues price_bound no_goods (atom (0 ∷ []) 3 ∷ []) 0 (0 ∷ []) 4 [] [] 5 4 (Ok false) }
 {}

@@ -20,7 +20,7 @@ use Rattle.prune.specs.Faults.{IfStepLimit}
 use Rattle.prune.specs.declared.prune_fault.PruneFault.{PruneFault}
 use Rattle.prune.specs.declared.prune_fault.PruneFault.TheVariants.{StepLimit, Memory}
 use Rattle.prune.specs.Points.{or_points}
-use Rattle.prune.specs.SearchSteps.{greatest_price, search_steps_by, searched_bundles, first_over, first_refused, is_heavy, first_heavy, steps_at_most}
+use Rattle.prune.specs.SearchSteps.{greatest_price, search_steps_by, searched_bundles, first_over, first_refused, is_heavy, first_heavy, steps_at_most_by}
 use Rattle.prune.specs.Lemmas.OnBundles.{IsOnBundle}
 use Rattle.prune.specs.Lemmas.Lists.{Contains-filter, Contains-filter_parts, filter-kept, filter-lost}
 use Rattle.prune.specs.Lemmas.SearchSteps.{greatest_price-point, search_steps-point, search_steps_any_goods, search_within_bound, priced_bundle}
@@ -257,9 +257,9 @@ refused_over steps (first ∷ rest) options bundle e =
     (refused_over steps rest (options_after options (steps first)) bundle (sym (first_over-within steps options first rest l) ∙ e)))
     (cases_lt (next_steps options) (steps first))
 
--- without a limit on all together, it has more packings by all bids than a search may take steps
+-- without a limit on all together, the packings by all bids may take more steps than a search may
 pub refused_load : (options : SearchOptions) (goods : ℕ) (atoms : List (Atom (List ℕ))) (bundle : List ℕ) → All (IsOnBundle goods) atoms
-    → first_refused options goods atoms ≡ Some bundle → options.total ≡ None → options.each < steps_at_most atoms bundle
+    → first_refused options goods atoms ≡ Some bundle → options.total ≡ None → options.each < steps_at_most_by options.kind atoms bundle
 unfolding first_refused
 refused_load options goods atoms bundle on e none = search (rules, search_within_bound, refused_over)
 

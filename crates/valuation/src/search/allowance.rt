@@ -2,8 +2,7 @@
 ghost use Rattle.std.specs.Prelude.{◌≡◌, ◌+◌, ◌<◌, true, false, if◌then◌else◌};
 ghost use Rattle.valuation.specs.Internal.ValueSearch.{charge_if};
 
-/// So many goods are looked at for a step.
-pub(crate) const GOODS_A_STEP: usize = 1_000;
+use crate::search::budget::GOODS_A_STEP;
 
 /// The steps that are left, if they have a limit.
 #[derive(Clone, Copy, Debug, Drop)]

@@ -5,6 +5,6 @@
 pub enum SearchKind {
     /// From the first bid to the last, by the bound by prices.
     Plain,
-    /// From the last bid to the first, by the bound by rates.
+    /// From the last bid to the first, by the bounds by prices and by rates.
     Bounded,
 }

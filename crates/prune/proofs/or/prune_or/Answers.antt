@@ -1,4 +1,5 @@
 -- `prune_or`: A plain pruning refuses at the first heavy bundle.
+use Rattle.prune.proofs.Common.{arith}
 use Rattle.prune.proofs.Common.{◌≡◌, ◌<◌, ℕ, None, Some, sym, ◌∙◌, refl, subst, All, IfOk-weaker, IfErr-weaker, MAX_GOODS, IsAtom, plain_options, SearchOptions}
 use Rattle.prune.proofs.Common.{atoms_of, IfStepLimit, first_heavy, first_refused, steps_at_most, first_refused-plain, refused_load, step_limit_weaker}
 use Rattle.prune.proofs.Common.{on_bundles}
@@ -30,6 +31,6 @@ returns-clause-load g c =
     (λ fault. IfStepLimit fault (λ bundle. (n : ℕ) → All (IsAtom n) bids → first_refused c.plain.result n bids ≡ Some (goods bundle)))
     (λ fault. IfStepLimit fault (λ bundle. c.args.limit < steps_at_most bids (goods bundle)))
     (λ fault. step_limit_weaker fault _ _ (λ bundle h.
-    refused_load (plain_options c.args.limit) MAX_GOODS bids (goods bundle) (on_bundles MAX_GOODS bids c.requires)
-    (subst (λ (o : SearchOptions). first_refused o MAX_GOODS bids ≡ Some (goods bundle)) c.plain.ensures
-    (h MAX_GOODS c.requires)) refl)) c.prune_or_by.ensures.refused
+    let over = refused_load (plain_options c.args.limit) MAX_GOODS bids (goods bundle) (on_bundles MAX_GOODS bids c.requires)
+    (subst (λ (o : SearchOptions). first_refused o MAX_GOODS bids ≡ Some (goods bundle)) c.plain.ensures (h MAX_GOODS c.requires)) refl in
+    omega (arith, over))) c.prune_or_by.ensures.refused
