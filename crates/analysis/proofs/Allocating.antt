@@ -10,6 +10,7 @@ pub mod NumberLines
 pub mod Reasons
 pub mod Renumbering
 pub mod Replacing
+pub mod TableRows
 pub mod RowTexts
 pub mod TrueVerdicts
 pub mod Winning

@@ -6,6 +6,7 @@ pub mod Examples
 pub mod AllocationVerdicts
 pub mod Allocations
 pub mod BidNumbers
+pub mod NumberingTables
 pub mod KeptWinners
 pub mod LpTexts
 pub mod BidderChanges

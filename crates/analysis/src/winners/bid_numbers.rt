@@ -55,7 +55,7 @@ pub fn read_bid_numbers(alloc: Global, text: &[u8]) -> Result<Vec<u32>, BidNumbe
 }
 
 /// The first line, and what is behind its LF.
-fn cut_line(text: &[u8]) -> Option<(&[u8], &[u8])>
+pub(crate) fn cut_line(text: &[u8]) -> Option<(&[u8], &[u8])>
     ensures some { IfSome result (λ parts. lines_in text.now ≡ parts.0.now ∷ lines_in parts.1.now) }
     ensures length { IfSome result (λ parts. length parts.0.now + length parts.1.now + 1 ≡ length text.now) }
     ensures none { IfNone result (lines_in text.now ≡ text.now ∷ []) }
@@ -74,7 +74,11 @@ fn line_feed(text: &[u8]) -> Option<usize>
 }
 
 /// Appends the numbers in a line, before which so many lines end.
-fn push_numbers(numbers: &mut Vec<u32>, line: &[u8], ends: u64) -> Result<(), BidNumbersFault>
+pub(crate) fn push_numbers(
+    numbers: &mut Vec<u32>,
+    line: &[u8],
+    ends: u64,
+) -> Result<(), BidNumbersFault>
     requires { ends + length line.now < 2 ^ 64 }
     ensures numbers { OnOk result (numbers.new.items ≡ numbers.old.items ++ map number_of (words_in line.now)) }
     ensures faultless { OnOk result (list_all is_bid_number (words_in line.now) ≡ true) }

@@ -7,6 +7,7 @@ ghost use Rattle.analysis.specs.Allocations.{allocations, can_both_win, greatest
 ghost use Rattle.analysis.specs.BidNumbers.{bid_numbers, faulty_line, lines_in};
 ghost use Rattle.analysis.specs.KeptWinners.{in_canonical_file, in_place_of, kept_as, with_kept_bids};
 ghost use Rattle.analysis.specs.LpTexts.{lp_rows, lp_text};
+ghost use Rattle.analysis.specs.NumberingTables.{table_numbers};
 ghost use Rattle.analysis.specs.declared.winners.allocation_verdict.AllocationVerdict.TheVariants.{Revenue, SharedBidder};
 ghost use Rattle.analysis.specs.declared.winners.allocation_verdict.AllocationVerdict.TheVariants.{SharedGood};
 
@@ -157,4 +158,20 @@ pub fn faulty_lines()
     ensures sign { faulty_line 1 (lines_in (codes "1\n+2")) ≡ Some 2 }
     ensures comma { faulty_line 1 (lines_in (codes "1,2")) ≡ Some 1 }
     ensures too_large { faulty_line 1 (lines_in (codes "4294967295\n4294967296")) ≡ Some 2 }
+{}
+
+/// Tables of numberings, and the lines at which others are refused.
+pub fn numbering_tables()
+    ensures exchanged { table_numbers (codes "left\tright\n0\t1\n1\t0\n") ≡ Ok (1 ∷ 0 ∷ []) }
+    ensures no_goods { table_numbers (codes "left\tright\n") ≡ Ok [] }
+    ensures returns { table_numbers (codes "left\tright\r\n0\t5\r\n") ≡ Ok (5 ∷ []) }
+    ensures unended { table_numbers (codes "left\tright\n0\t1") ≡ Ok (1 ∷ []) }
+    ensures header { table_numbers (codes "0\t1\n1\t0\n") ≡ Err 1 }
+    ensures header_alone { table_numbers (codes "left\tright") ≡ Err 1 }
+    ensures order { table_numbers (codes "left\tright\n1\t0\n0\t1\n") ≡ Err 2 }
+    ensures one_number { table_numbers (codes "left\tright\n0\t1\n1\n") ≡ Err 3 }
+    ensures three_numbers { table_numbers (codes "left\tright\n0\t1\t2\n") ≡ Err 2 }
+    ensures empty_row { table_numbers (codes "left\tright\n\n0\t0\n") ≡ Err 2 }
+    ensures word { table_numbers (codes "left\tright\n0\tx\n") ≡ Err 2 }
+    ensures too_large { table_numbers (codes "left\tright\n0\t65536\n") ≡ Err 2 }
 {}

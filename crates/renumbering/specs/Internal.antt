@@ -1,0 +1,3 @@
+-- What the contracts inside this crate cite.
+pub mod Rounds
+pub mod Searching
